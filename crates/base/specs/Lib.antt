@@ -1,0 +1,8 @@
+pub mod Branch
+pub mod Sums
+pub mod Bits
+pub mod Places
+pub mod Slots
+pub mod Measure
+pub mod Pigeonhole
+pub mod SameRows

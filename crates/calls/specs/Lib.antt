@@ -1,0 +1,11 @@
+pub mod Calls
+pub mod Placing
+pub mod Walk
+pub mod Refusals
+pub mod Step
+pub mod Book
+pub mod Log
+pub mod History
+pub mod Table
+pub mod TableProof
+pub mod Claims

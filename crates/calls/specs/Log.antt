@@ -1,0 +1,35 @@
+-- THE PLAIN LOG: the accepted changes in order, and the state that it tells for a second.
+use mathlib.Core.Bool.{Bool, cond, not}
+use mathlib.Core.List.{List, [], _∷_, _++_}
+use Prim.Native.Nat.{ℕ}
+use lib.Dec.{eqb, leb}
+use Rattle.calls.specs.Calls.{Call, Start, Set, Clear, Update, Advance, LookBack, Row}
+
+-- the accepted changes, the first of them first
+abbrev pub Log : Type 0
+Log = List Call
+
+-- the rows of all tags but this
+abbrev pub without : ℕ → List Row → List Row
+without tag [] = []
+without tag (r ∷ l) = cond (eqb (r .tag) tag) (without tag l) (r ∷ without tag l)
+
+abbrev pub andRow : ℕ → ℕ → List Row → List Row
+andRow tag reading rows = rows ++ (record { tag = tag; reading = reading } ∷ [])
+
+-- a change tells of the seconds from its own on
+abbrev pub tells : ℕ → List Row → Call → List Row
+tells t rows (Set s tag reading) = cond (leb s t) (andRow tag reading rows) rows
+tells t rows (Clear s tag) = cond (leb s t) (without tag rows) rows
+tells t rows (Update s tag reading) = cond (leb s t) (andRow tag reading (without tag rows)) rows
+tells t rows (Start b q blocks tags) = rows
+tells t rows (Advance s) = rows
+tells t rows (LookBack s r l) = rows
+
+-- what stands at t
+abbrev pub stateFrom : ℕ → List Row → Log → List Row
+stateFrom t rows [] = rows
+stateFrom t rows (c ∷ l) = stateFrom t (tells t rows c) l
+
+abbrev pub stateAt : Log → ℕ → List Row
+stateAt log t = stateFrom t [] log

@@ -1,0 +1,70 @@
+-- The proved table holds: each row is computed on the words.
+use mathlib.Core.Path.{_≡_, refl}
+use mathlib.Core.Bool.{true}
+use Rattle.layout.specs.declared.address.Address.the-variants.{Field}
+use Rattle.layout.specs.Sizes.{OPEN}
+use Rattle.layout.specs.Fields.{closedWord}
+use Rattle.calls.specs.Calls.{Call, Start, Set, Clear, LookBack, Row, Answer, Shown, Refused, accepted}
+use Rattle.calls.specs.Step.{step, wordsRead}
+use Rattle.calls.specs.History.{wordsAfter, trace, opening, account}
+use mathlib.Core.List.{List, [], _∷_, _++_}
+use Prim.Native.Nat.{ℕ, suc, _+_, _*_, _-_, _≤_}
+use native.Mathlib.Omega.{arith}
+use lib.ListN.{length, replicate}
+use lib.Dec.{lit≤}
+use borrow.Author.Tests.{ne-eqb}
+use Rattle.base.specs.Bits.{bitAt, withBit, withoutBit}
+use Rattle.base.specs.Places.{bitsFrom}
+use Rattle.base.specs.Slots.{slotsOf}
+use Rattle.layout.specs.Sizes.{blockLen, layoutLen}
+use Rattle.layout.specs.Program.{each}
+use Rattle.layout.specs.Settings.{inLimits}
+use Rattle.layout.specs.Head.{headOf, headWords, withHead, cleared, badHead, placed}
+use Rattle.layout.specs.Cursor.{storeCursor}
+use Rattle.layout.specs.Standing.{stands, raised, lowered}
+use Rattle.layout.specs.Parts.{blockPart, levelPart, pagePart, blockWord, slotWord}
+use Rattle.layout.specs.Words.{readWord, writeWord, wipeBlock}
+use Rattle.layout.specs.OnWords.{over}
+use Rattle.calls.specs.Placing.{enterTime, openBlock, unlink, endRecord, standing, putRecord, moveRecord, closeFull, judgeFull, roll, makeRoom, place, replace, close, judge, clearTag, finish, setProgram, clearProgram, updateProgram, advanceProgram}
+use Rattle.calls.specs.Walk.{lastUpTo, entries, topLevel, lookUp, descend, search, rowOf, rowsOf, neighbour, visit, path, look}
+use Rattle.calls.specs.Refusals.{refusal, setTests, badPlace, badBlock, unsoundSet, unsoundClear, blocksOut}
+use Rattle.calls.specs.Step.{start, set, clear, update, advance, reader, lookAt, lookBack}
+use Rattle.calls.specs.Book.{writes}
+use Rattle.calls.specs.Table.{Table, fresh, after7, after8, seenAt, row, view, onePage, noPage, printed}
+
+-- ---- a set is accepted, or refused, by its tests alone
+set-passes : (ws : List ℕ) (s tag reading : ℕ) → refusal (setTests ws (wordsRead ws) s tag) ≡ 0
+    → accepted (step ws (Set s tag reading) .answer) ≡ true
+unfolding set
+set-passes ws s tag reading e = rw e
+
+set-refused : (ws : List ℕ) (s tag reading n : ℕ) → refusal (setTests ws (wordsRead ws) s tag) ≡ suc n
+    → step ws (Set s tag reading) .answer ≡ Refused (suc n)
+unfolding set
+set-refused ws s tag reading n e = rw (e, ne-eqb (suc n) 0 (omega arith))
+
+pub table : Table
+unfolding fresh after7 after8 bitAt withBit withoutBit bitsFrom slotsOf blockLen layoutLen each inLimits headOf headWords withHead cleared badHead placed storeCursor stands raised lowered blockPart levelPart pagePart blockWord slotWord readWord writeWord wipeBlock over enterTime openBlock unlink endRecord standing putRecord moveRecord closeFull judgeFull roll makeRoom place replace close judge clearTag finish setProgram clearProgram updateProgram advanceProgram lastUpTo entries topLevel lookUp descend search rowOf rowsOf neighbour visit path look badPlace badBlock unsoundSet unsoundClear blocksOut start set clear update advance reader lookAt lookBack writes
+table = record {
+  p1 = refl;
+  p2 = refl;
+  p3 = refl;
+  printed-9 = refl;
+  p4 = refl;
+  p5 = refl;
+  p5-sets = refl;
+  p5-bound = lit≤ tt;
+  p6-not = refl;
+  p6 = refl;
+  p7 = refl;
+  p8 = refl;
+  p8-not = λ ws. refl;
+  p9 = λ reading. set-passes after8 8 6 reading refl;
+  p10 = λ reading. set-refused after8 7 6 reading 5 refl;
+  p11 = λ reading. set-passes after8 8 15 reading refl;
+  p11-not = λ reading. set-refused after8 8 16 reading 7 refl;
+  p12 = λ ws e. rw e;
+  p12-not = λ ws e. rw e;
+  slip-acceptor = refl;
+  slip-first = refl;
+}

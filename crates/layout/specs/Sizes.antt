@@ -1,0 +1,56 @@
+-- THE NUMBERS OF WORDS (document 01, "The lent store"). Nothing outside of this crate knows one of them.
+use Prim.Native.Nat.{ℕ, zero, suc, _+_, _*_, _-_}
+use Rattle.layout.specs.declared.settings.Settings.{Settings}
+
+-- an end not yet known
+abbrev pub OPEN : ℕ
+OPEN = 4294967295
+
+-- the first word of a head that a start left
+abbrev pub mark : ℕ
+mark = 7001
+
+abbrev pub headLen : ℕ
+headLen = 16
+
+-- a page is 16 words inside its level
+abbrev pub pageLen : ℕ
+pageLen = 16
+
+-- opened, closed, up, left, last child, right, standing bits low, standing bits high
+abbrev pub blockHead : ℕ
+blockHead = 8
+
+-- tag, reading, from, to
+abbrev pub recordLen : ℕ
+recordLen = 4
+
+-- a row that a look-back gives: tag, reading
+abbrev pub rowLen : ℕ
+rowLen = 2
+
+-- the index: three levels behind the head, each with its pages
+abbrev pub levelLen : ℕ → ℕ
+levelLen zero = 4096
+levelLen (suc zero) = 256
+levelLen (suc (suc l)) = 16
+
+abbrev pub levelStart : ℕ → ℕ
+levelStart zero = 16
+levelStart (suc zero) = 4112
+levelStart (suc (suc l)) = 4368
+
+-- the directory behind the index, one word a tag
+abbrev pub dirStart : ℕ
+dirStart = 4384
+
+-- the blocks behind the directory
+unfoldable pub blockLen : Settings → ℕ
+blockLen s = blockHead + recordLen * s .block
+
+abbrev pub blockStart : Settings → ℕ → ℕ
+blockStart s n = dirStart + s .tags + (n - 1) * blockLen s
+
+-- how long a store must be
+unfoldable pub layoutLen : Settings → ℕ
+layoutLen s = dirStart + s .tags + s .blocks * blockLen s

@@ -1,0 +1,267 @@
+// The head of the store as one value: read with its refusals, and written.
+use crate::address;
+use crate::address::Address;
+use crate::parts;
+use crate::refusal;
+use crate::settings::Settings;
+use crate::sizes;
+ghost use mathlib.Core.Path.{_≡_};
+ghost use Prim.Native.Nat.{_≤_, _<_};
+ghost use lib.ListN.{length};
+ghost use Rattle.layout.specs.Sizes.{headLen, layoutLen};
+ghost use Rattle.layout.specs.Settings.{Within};
+ghost use Rattle.layout.specs.Head.{headOf, withHead, cleared, fillFits, spareZero, badHead, headAnswer, placed};
+ghost use Rattle.layout.specs.HeadLaws.{SoundHead};
+ghost use Rattle.layout.specs.Cursor.{at, filled, grown, relinked, storeCursor};
+ghost use Rattle.layout.specs.Ran.{Ran};
+ghost use Rattle.layout.specs.OnWords.{over, Held};
+
+// What a change moves on: the part of the head that is not settings.
+pub struct Cursor {
+    // N: blocks opened; block N is the acceptor
+    pub opened: u32,
+    // the second of the last accepted change or clock move
+    pub clock: u32,
+    // records in block N
+    pub fill: u32,
+    // last child of block 0
+    pub child: u32,
+    // right of block 0
+    pub right: u32,
+}
+
+pub struct Head {
+    pub settings: Settings,
+    pub cursor: Cursor,
+}
+
+// What reading the head answers: the head, or refusal 2 or 3.
+pub enum HeadAnswer {
+    Read(Head),
+    Refused(u32),
+}
+
+impl Cursor {
+    // The clock stands at `second`.
+    pub fn at(self, second: u32) -> Cursor
+        ensures { λ r. ⌜ r ≡ at second self ⌝ }
+    {
+        Cursor {
+            opened: self.opened,
+            clock: second,
+            fill: self.fill,
+            child: self.child,
+            right: self.right,
+        }
+    }
+
+    // One record more in the acceptor.
+    pub fn filled(self) -> Cursor
+        requires { ⌜ self .fill < 64 ⌝ }
+        ensures { λ r. ⌜ r ≡ filled self ⌝ }
+    {
+        Cursor {
+            opened: self.opened,
+            clock: self.clock,
+            fill: self.fill + 1,
+            child: self.child,
+            right: self.right,
+        }
+    }
+
+    // One block more, empty; `right` is right of block 0.
+    pub fn grown(self, right: u32) -> Cursor
+        requires { ⌜ self .opened < 4096 ⌝ }
+        ensures { λ r. ⌜ r ≡ grown right self ⌝ }
+    {
+        Cursor {
+            opened: self.opened + 1,
+            clock: self.clock,
+            fill: 0,
+            child: self.child,
+            right,
+        }
+    }
+
+    // Block 0's last child and right.
+    pub fn relinked(self, child: u32, right: u32) -> Cursor
+        ensures { λ r. ⌜ r ≡ relinked child right self ⌝ }
+    {
+        Cursor {
+            opened: self.opened,
+            clock: self.clock,
+            fill: self.fill,
+            child,
+            right,
+        }
+    }
+}
+
+impl Head {
+    pub fn opened(self) -> u32
+        ensures { λ r. ⌜ r ≡ self .cursor .opened ⌝ }
+    {
+        self.cursor.opened
+    }
+
+    pub fn clock(self) -> u32
+        ensures { λ r. ⌜ r ≡ self .cursor .clock ⌝ }
+    {
+        self.cursor.clock
+    }
+
+    pub fn fill(self) -> u32
+        ensures { λ r. ⌜ r ≡ self .cursor .fill ⌝ }
+    {
+        self.cursor.fill
+    }
+
+    // Records placed so far: every block before the acceptor is full.
+    pub fn placed(self) -> u32
+        requires { ⌜ SoundHead self ⌝ }
+        ensures { λ r. ⌜ r ≡ placed self ⌝ }
+    {
+        if self.cursor.opened == 0 {
+            return 0;
+        }
+        (self.cursor.opened - 1) * self.settings.block + self.cursor.fill
+    }
+
+    // Records in the acceptor: 1 to b, and 0 where no block is opened.
+    pub fn fill_fits(self) -> bool
+        ensures { λ r. ⌜ r ≡ fillFits self ⌝ }
+    {
+        if self.cursor.opened == 0 {
+            return self.cursor.fill == 0;
+        }
+        if self.cursor.fill < 1 {
+            return false;
+        }
+        self.cursor.fill <= self.settings.block
+    }
+}
+
+// The head that the words hold, right or wrong.
+pub fn head_of(store: &[u32]) -> Head
+    requires { ⌜ headLen ≤ length (now store) ⌝ }
+    ensures { λ r. ⌜ r ≡ headOf (now (store .entry)) ⌝ }
+{
+    let settings = Settings {
+        block: store[1],
+        useful: store[2],
+        blocks: store[3],
+        tags: store[4],
+    };
+    let cursor = Cursor {
+        opened: store[5],
+        clock: store[6],
+        fill: store[7],
+        child: store[8],
+        right: store[9],
+    };
+    Head { settings, cursor }
+}
+
+// The last six words are zero.
+pub fn spare_zero(store: &[u32]) -> bool
+    requires { ⌜ headLen ≤ length (now store) ⌝ }
+    ensures { λ r. ⌜ r ≡ spareZero (now (store .entry)) ⌝ }
+{
+    if store[10] != 0 {
+        return false;
+    }
+    if store[11] != 0 {
+        return false;
+    }
+    if store[12] != 0 {
+        return false;
+    }
+    if store[13] != 0 {
+        return false;
+    }
+    if store[14] != 0 {
+        return false;
+    }
+    store[15] == 0
+}
+
+// Refusal 3: words that no start and no change left.
+pub fn bad_head(store: &[u32]) -> bool
+    requires { ⌜ headLen ≤ length (now store) ⌝ }
+    ensures { λ r. ⌜ r ≡ badHead (now (store .entry)) ⌝ }
+{
+    if store[0] != sizes::MARK {
+        return true;
+    }
+    let h = head_of(store);
+    if !h.settings.within() {
+        return true;
+    }
+    if h.settings.blocks < h.cursor.opened {
+        return true;
+    }
+    if h.cursor.clock == sizes::OPEN {
+        return true;
+    }
+    if !spare_zero(store) {
+        return true;
+    }
+    !h.fill_fits()
+}
+
+// The head, or refusal 2 for a store that has none, or refusal 3.
+pub fn read_head(store: &[u32]) -> HeadAnswer
+    ensures { λ r. ⌜ r ≡ headAnswer (now (store .entry)) ⌝ }
+{
+    if store.len() < sizes::HEAD_LEN {
+        return HeadAnswer::Refused(refusal::SHORT_HEAD);
+    }
+    if bad_head(store) {
+        return HeadAnswer::Refused(refusal::HEAD);
+    }
+    HeadAnswer::Read(head_of(store))
+}
+
+// All 16 words, the last six as zeros.
+pub fn write_head(store: &mut [u32], h: Head)
+    requires { ⌜ headLen ≤ length (now store) ⌝ }
+    ensures { λ _. ⌜ now (store .exit) ≡ withHead h (now (store .entry)) ⌝ }
+{
+    store[0] = sizes::MARK;
+    store[1] = h.settings.block;
+    store[2] = h.settings.useful;
+    store[3] = h.settings.blocks;
+    store[4] = h.settings.tags;
+    store[5] = h.cursor.opened;
+    store[6] = h.cursor.clock;
+    store[7] = h.cursor.fill;
+    store[8] = h.cursor.child;
+    store[9] = h.cursor.right;
+    store[10] = 0;
+    store[11] = 0;
+    store[12] = 0;
+    store[13] = 0;
+    store[14] = 0;
+    store[15] = 0;
+}
+
+// The words that a change moves on; the settings are never written again.
+pub fn write_cursor(store: &mut [u32], s: Settings, c: Cursor)
+    requires { ⌜ Held s (now store) ⌝ }
+    ensures { λ _. ⌜ Ran (over s) (storeCursor c) (now (store .entry)) tt (now (store .exit)) ⌝ }
+{
+    address::write(store, s, Address::Head(5), c.opened);
+    address::write(store, s, Address::Head(6), c.clock);
+    address::write(store, s, Address::Head(7), c.fill);
+    address::write(store, s, Address::Head(8), c.child);
+    address::write(store, s, Address::Head(9), c.right);
+}
+
+// The layout filled with zeros; words beyond it are untouched.
+pub fn clear_layout(store: &mut [u32], s: Settings)
+    requires { ⌜ Within s ⌝ }
+    requires { ⌜ layoutLen s ≤ length (now store) ⌝ }
+    ensures { λ _. ⌜ now (store .exit) ≡ cleared s (now (store .entry)) ⌝ }
+{
+    parts::zero_part(store, 0, s.words());
+}

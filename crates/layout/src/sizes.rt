@@ -1,0 +1,33 @@
+// The numbers of words (specs/Sizes.antt says the same). Nothing outside of this crate knows one of them, but for OPEN.
+
+// an end not yet known
+pub const OPEN: u32 = 4294967295;
+
+// the first word of a head that a start left
+pub const MARK: u32 = 7001;
+
+pub const HEAD_LEN: usize = 16;
+
+// a page is 16 words inside its level
+pub const PAGE_LEN: usize = 16;
+
+// the first words of a block: seconds, links and standing bits
+pub const BLOCK_HEAD: usize = 8;
+
+// the standing bits are the last two words of a block's head
+pub const BITS_START: usize = 6;
+
+// a slot's record: tag, reading, from, to
+pub const RECORD_LEN: usize = 4;
+
+// where the three levels of the index start, and the directory behind them
+pub const LEVEL_0: usize = 16;
+
+pub const LEVEL_1: usize = 4112;
+
+pub const LEVEL_2: usize = 4368;
+
+pub const DIR_START: usize = 4384;
+
+// a row that a look-back gives: tag, reading
+pub const ROW_LEN: usize = 2;
