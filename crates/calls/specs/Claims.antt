@@ -12,7 +12,7 @@ use Rattle.layout.specs.Sizes.{OPEN, headLen, rowLen}
 use Rattle.layout.specs.Fields.{openedWord, closedWord}
 use Rattle.layout.specs.Head.{headOf, placed}
 use Rattle.layout.specs.Parts.{blockPart, levelPart, pagePart}
-use Rattle.calls.specs.Calls.{Call, Start, Set, Clear, Update, Advance, LookBack, Row, View, Shown, Refused, accepted, Reply}
+use Rattle.calls.specs.Calls.{Call, Start, Set, Clear, Update, Advance, LookBack, View, Shown, Refused, accepted}
 use Rattle.calls.specs.Walk.{Pass, looked}
 use Rattle.calls.specs.Refusals.{Test}
 use Rattle.calls.specs.Step.{step, testsOf, wordsRead, lookAt, viewOf, rowWords, written, zeros}
@@ -114,9 +114,9 @@ pub record Answered (ws : List ℕ) (a : Account) (t : ℕ) (rows list : List �
   pub rows-given : step ws (LookBack t rows list) .rows ≡ written (rowWords (v .rows)) rows
   pub list-given : step ws (LookBack t rows list) .list ≡ written (v .list) list
 
--- a look-back at t with these buffers is answered exactly if t is not OPEN, not after the clock, and the buffers are long enough
+-- a look-back at t with these buffers is answered exactly if t is below OPEN, not after the clock, and the buffers are long enough
 pub record Asked (ws : List ℕ) (t : ℕ) (rows list : List ℕ) : Type 0 where
-  pub second : t ≢ OPEN
+  pub second : t < OPEN
   pub past : t ≤ headOf ws .cursor .clock
   pub row-room : rowLen * headOf ws .settings .tags ≤ length rows
   pub list-room : headOf ws .settings .blocks ≤ length list

@@ -3,7 +3,7 @@
 use mathlib.Core.Bool.{Bool, cond}
 use mathlib.Core.List.{List, [], _∷_, _++_}
 use Prim.Native.Nat.{ℕ, _+_}
-use Rattle.calls.specs.Calls.{Call, Start, Set, Clear, Update, Advance, LookBack, Answer, accepted, Reply}
+use Rattle.calls.specs.Calls.{Call, Start, Set, Clear, Update, Advance, LookBack, accepted}
 use Rattle.calls.specs.Step.{step}
 use Rattle.calls.specs.Book.{Book, emptyBook, bookSet, bookClear, bookUpdate}
 use Rattle.calls.specs.Log.{Log}

@@ -1,5 +1,5 @@
 -- THE PLAIN LOG: the accepted changes in order, and the state that it tells for a second.
-use mathlib.Core.Bool.{Bool, cond, not}
+use mathlib.Core.Bool.{cond}
 use mathlib.Core.List.{List, [], _∷_, _++_}
 use Prim.Native.Nat.{ℕ}
 use lib.Dec.{eqb, leb}

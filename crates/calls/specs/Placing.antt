@@ -1,5 +1,5 @@
 -- THE CHANGES AS PROGRAMS (document 01, "Placing and closing"). A program threads the cursor: N, clock, fill and block 0's two links.
-use mathlib.Core.Bool.{Bool, _||_}
+use mathlib.Core.Bool.{_||_}
 use mathlib.Core.List.{List}
 use Prim.Native.Nat.{ℕ, _+_, _*_, _-_, _/_, _%_}
 use lib.Dec.{eqb, ltb}
@@ -11,7 +11,7 @@ use Rattle.layout.specs.declared.head.Cursor.{Cursor}
 use Rattle.layout.specs.declared.address.Address.the-variants.{Time, Dir, Field, Bits, Slot}
 use Rattle.layout.specs.Sizes.{OPEN, pageLen}
 use Rattle.layout.specs.Fields.{openedWord, closedWord, upWord, leftWord, childWord, rightWord, tagWord, readingWord, fromWord, toWord}
-use Rattle.layout.specs.Program.{Prog, ret, bind, when, _>>=_, _>>_, get!, set!, wipe!, each}
+use Rattle.layout.specs.Program.{Prog, ret, when, _>>=_, _>>_, get!, set!, wipe!, each}
 use Rattle.layout.specs.Cursor.{at, filled, grown, relinked, storeCursor}
 
 -- ---- places: slot k (from 0) of block n has place (n − 1) × b + k + 1

@@ -1,6 +1,6 @@
 -- WHEN A CALL IS TURNED AWAY (document 01): for each call its refusals in order, each a number with its condition, a total test of the arguments
 -- and of the words as the call finds them. The answer is the first that applies.
-use mathlib.Core.Bool.{Bool, true, false, cond, not, _&&_, _||_}
+use mathlib.Core.Bool.{Bool, false, cond, not, _&&_, _||_}
 use mathlib.Core.List.{List, [], _∷_}
 use Prim.Native.Nat.{ℕ, zero, suc, _+_, _*_, _-_}
 use lib.Dec.{eqb, ltb, leb}
@@ -115,34 +115,43 @@ storeTests ws l =
     ∷ record { number = 3; applies = badHead ws }
     ∷ record { number = 4; applies = ltb (length ws) (layoutLen (headOf ws .settings)) } ∷ l
 
+-- a set's own
+abbrev pub setOwn : Head → Memory → ℕ → List Test
+setOwn h f tag =
+    record { number = 8; applies = leb (h .settings .tags) tag }
+    ∷ record { number = 9; applies = not (eqb (f (Dir tag)) 0) }
+    ∷ record { number = 12; applies = unsoundSet h f }
+    ∷ record { number = 13; applies = blocksOut h 1 } ∷ []
+
+-- those of a clear (more = 0) or a new reading (more = 1)
+abbrev pub clearOwn : ℕ → Head → Memory → ℕ → List Test
+clearOwn more h f tag =
+    record { number = 8; applies = leb (h .settings .tags) tag }
+    ∷ record { number = 10; applies = eqb (f (Dir tag)) 0 }
+    ∷ record { number = 12; applies = unsoundClear h f more tag }
+    ∷ record { number = 13; applies = blocksOut h (copies h f (tagBlock h f tag) + more) } ∷ []
+
+-- a time that is OPEN (no word is above it)
+abbrev pub isOpen : ℕ → Bool
+isOpen s = leb OPEN s
+
 -- a change or clock move at s
 abbrev pub timeTests : List ℕ → ℕ → List Test → List Test
 timeTests ws s l =
-    storeTests ws (record { number = 5; applies = eqb s OPEN }
+    storeTests ws (record { number = 5; applies = isOpen s }
     ∷ record { number = 6; applies = ltb s (headOf ws .cursor .clock) } ∷ l)
 
 abbrev pub setTests : List ℕ → Memory → ℕ → ℕ → List Test
-setTests ws f s tag =
-    let h = headOf ws in
-    timeTests ws s (record { number = 8; applies = leb (h .settings .tags) tag }
-    ∷ record { number = 9; applies = not (eqb (f (Dir tag)) 0) }
-    ∷ record { number = 12; applies = unsoundSet h f }
-    ∷ record { number = 13; applies = blocksOut h 1 } ∷ [])
+setTests ws f s tag = timeTests ws s (setOwn (headOf ws) f tag)
 
--- a clear (more = 0) or a new reading (more = 1)
 abbrev pub clearTests : ℕ → List ℕ → Memory → ℕ → ℕ → List Test
-clearTests more ws f s tag =
-    let h = headOf ws in
-    timeTests ws s (record { number = 8; applies = leb (h .settings .tags) tag }
-    ∷ record { number = 10; applies = eqb (f (Dir tag)) 0 }
-    ∷ record { number = 12; applies = unsoundClear h f more tag }
-    ∷ record { number = 13; applies = blocksOut h (copies h f (tagBlock h f tag) + more) } ∷ [])
+clearTests more ws f s tag = timeTests ws s (clearOwn more (headOf ws) f tag)
 
 -- a look-back at t with buffers of these lengths; the last test is the walk's
 abbrev pub lookBackTests : List ℕ → ℕ → ℕ → ℕ → Bool → List Test
 lookBackTests ws t rows list unsound =
     let h = headOf ws in
-    storeTests ws (record { number = 5; applies = eqb t OPEN }
+    storeTests ws (record { number = 5; applies = isOpen t }
     ∷ record { number = 7; applies = ltb (h .cursor .clock) t }
     ∷ record { number = 11; applies = ltb rows (rowLen * h .settings .tags) || ltb list (h .settings .blocks) }
     ∷ record { number = 12; applies = unsound } ∷ [])

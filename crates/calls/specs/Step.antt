@@ -13,7 +13,7 @@ use Rattle.layout.specs.Program.{Prog, run}
 use Rattle.layout.specs.Head.{headOf, withHead, cleared}
 use Rattle.layout.specs.Parts.{blockPart, levelPart, pagePart}
 use Rattle.layout.specs.OnWords.{over}
-use Rattle.calls.specs.Calls.{Call, Start, Set, Clear, Update, Advance, LookBack, Row, Counts, View, Answer, Done, Shown, Refused, Reply}
+use Rattle.calls.specs.Calls.{Call, Start, Set, Clear, Update, Advance, LookBack, Row, View, Answer, Done, Shown, Refused, Reply}
 use Rattle.calls.specs.Placing.{setProgram, clearProgram, updateProgram, advanceProgram}
 use Rattle.calls.specs.Walk.{Reader, Pass, Looked, unsoundly, looked, look}
 use Rattle.calls.specs.Refusals.{Test, refusal, startTests, timeTests, setTests, clearTests, lookBackTests}

@@ -1,16 +1,11 @@
 -- The proved table holds: each row is computed on the words.
 use mathlib.Core.Path.{_≡_, refl}
 use mathlib.Core.Bool.{true}
-use Rattle.layout.specs.declared.address.Address.the-variants.{Field}
-use Rattle.layout.specs.Sizes.{OPEN}
-use Rattle.layout.specs.Fields.{closedWord}
-use Rattle.calls.specs.Calls.{Call, Start, Set, Clear, LookBack, Row, Answer, Shown, Refused, accepted}
+use Rattle.calls.specs.Calls.{Set, Refused, accepted}
 use Rattle.calls.specs.Step.{step, wordsRead}
-use Rattle.calls.specs.History.{wordsAfter, trace, opening, account}
-use mathlib.Core.List.{List, [], _∷_, _++_}
-use Prim.Native.Nat.{ℕ, suc, _+_, _*_, _-_, _≤_}
+use mathlib.Core.List.{List}
+use Prim.Native.Nat.{ℕ, suc, _-_, _≤_}
 use native.Mathlib.Omega.{arith}
-use lib.ListN.{length, replicate}
 use lib.Dec.{lit≤}
 use borrow.Author.Tests.{ne-eqb}
 use Rattle.base.specs.Bits.{bitAt, withBit, withoutBit}
@@ -30,7 +25,7 @@ use Rattle.calls.specs.Walk.{lastUpTo, entries, topLevel, lookUp, descen
 use Rattle.calls.specs.Refusals.{refusal, setTests, badPlace, badBlock, unsoundSet, unsoundClear, blocksOut}
 use Rattle.calls.specs.Step.{start, set, clear, update, advance, reader, lookAt, lookBack}
 use Rattle.calls.specs.Book.{writes}
-use Rattle.calls.specs.Table.{Table, fresh, after7, after8, seenAt, row, view, onePage, noPage, printed}
+use Rattle.calls.specs.Table.{Table, fresh, after7, after8}
 
 -- ---- a set is accepted, or refused, by its tests alone
 set-passes : (ws : List ℕ) (s tag reading : ℕ) → refusal (setTests ws (wordsRead ws) s tag) ≡ 0

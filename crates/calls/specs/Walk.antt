@@ -1,6 +1,6 @@
 -- THE LOOK-BACK'S WALK (document 01, "The look-back"), over what it reads: block 0's last child, a block by its number, a page by its level
 -- and number. A store is one such reader; whatever hands out the same words has the same walk.
-use mathlib.Core.Bool.{Bool, cond, _&&_}
+use mathlib.Core.Bool.{cond, _&&_}
 use mathlib.Core.List.{List, [], _∷_, _++_}
 use Prim.Native.Nat.{ℕ, zero, suc, _+_, _*_, _-_, _/_, min}
 use lib.Dec.{eqb, ltb, leb}

@@ -3,7 +3,7 @@ use Prim.Native.Nat.{ℕ, _+_}
 use Rattle.layout.specs.declared.head.Cursor.{Cursor}
 use Rattle.layout.specs.declared.address.Address.the-variants.{Head}
 use Rattle.layout.specs.Fields.{headOpened, headClock, headFill, headChild, headRight}
-use Rattle.layout.specs.Program.{Prog, bind, ret, _>>_, set! }
+use Rattle.layout.specs.Program.{Prog, _>>_, set! }
 
 -- the clock stands at s
 abbrev pub at : ℕ → Cursor → Cursor

@@ -20,3 +20,4 @@ pub mod PartsLaws
 pub mod HeadLaws
 pub mod StandingLaws
 pub mod OverLaws
+pub mod Able

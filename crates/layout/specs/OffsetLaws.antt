@@ -8,14 +8,14 @@ use lib.ListN.{length, getD, set, replicate, length-set}
 use lib.Seq.{sets, length-sets}
 use Rattle.layout.specs.declared.settings.Settings.{Settings}
 use Rattle.layout.specs.declared.address.Address.{Address}
-use Rattle.layout.specs.Sizes.{levelStart, blockLen, blockStart, layoutLen}
+use Rattle.layout.specs.Sizes.{levelStart, dirStart, blockLen, blockStart, layoutLen}
 use Rattle.layout.specs.Address.{Numbered, Valid, offset}
 use Rattle.layout.specs.Program.{get!, set!, wipe! }
 use Rattle.layout.specs.Settings.{Within}
 use Rattle.layout.specs.Words.{readWord, writeWord, wipeBlock}
 use Rattle.layout.specs.Ran.{Ran}
 use Rattle.layout.specs.OnWords.{over, Held, held-fits, fits-same}
-use Rattle.layout.specs.SettingsLaws.{BlockLong, layout-len, layout-most}
+use Rattle.layout.specs.SettingsLaws.{BlockLong, layout-len, layout-least, layout-most}
 use Rattle.layout.specs.AddressLaws.{offset-below}
 
 -- level l starts at r
@@ -35,12 +35,13 @@ pub record Placed (s : Settings) (a : Address) (r : ℕ) : Type 0 where
   pub below : r < layoutLen s
   pub small : layoutLen s ≤ 1089824
 
--- from the second level on there is one more
+-- behind the second level there is one more
 pub level-last : (l : ℕ) → (l ≡ 0 → ⊥) → (l ≡ 1 → ⊥) → levelStart l ≡ 4368
 level-last zero a b = absurd (a refl)
 level-last (suc zero) a b = absurd (b refl)
 level-last (suc (suc l)) a b = refl
 
+-- all of block n is inside the layout
 module _ (s : Settings) (n : ℕ) (v : Numbered s n) where
   pub block-room : blockStart s n + blockLen s ≤ layoutLen s
   block-room =
@@ -49,10 +50,10 @@ module _ (s : Settings) (n : ℕ) (v : Numbered s n) where
 
 -- the code's sum, by the block's length that it was given
 module _ {s : Settings} {n b : ℕ} (v : Numbered s n) (w : Within s) (e : BlockLong s b) where
-  pub starts-small : 4384 + s .tags + (n - 1) * b ≤ 1089824
+  pub starts-small : dirStart + s .tags + (n - 1) * b ≤ 1089824
   starts-small = rw (e .is) (omega (arith, block-room s n v, layout-most s w))
 
-  pub starts : BlockAt s n (4384 + s .tags + (n - 1) * b)
+  pub starts : BlockAt s n (dirStart + s .tags + (n - 1) * b)
   starts = rw (e .is) record { is = refl; room = block-room s n v; small = layout-most s w }
 
 -- a valid address, by what it is
@@ -76,6 +77,10 @@ module _ {s : Settings} {ws : List ℕ} (h : Held s ws) where
 
   pub block-in-store : {n a b : ℕ} → BlockAt s n a → BlockLong s b → a + b ≤ length ws
   block-in-store p l = omega (arith, held-fits h .long)
+
+  -- and so are the head and the index
+  pub index-in-store : dirStart ≤ length ws
+  index-in-store = omega (arith, held-fits h .long, layout-least s)
 
   -- the word at an address's place was read,
   pub ran-read : {a : Address} {r : ℕ} → Placed s a r → Ran (over s) (get! a) ws (getD ws r 0) ws

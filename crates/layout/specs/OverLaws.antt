@@ -2,11 +2,11 @@
 use mathlib.Core.Path.{_≡_, refl}
 use mathlib.Core.List.{List}
 use Prim.Native.Nat.{ℕ}
-use lib.ListN.{length, getD}
+use lib.ListN.{getD}
 use Rattle.layout.specs.declared.settings.Settings.{Settings}
 use Rattle.layout.specs.declared.address.Address.{Address}
 use Rattle.layout.specs.declared.address.Address.the-variants.{Head}
-use Rattle.layout.specs.Address.{Valid, Numbered}
+use Rattle.layout.specs.Address.{Valid}
 use Rattle.layout.specs.Memory.{Memory}
 use Rattle.layout.specs.Words.{readWord, Fits}
 use Rattle.layout.specs.Program.{Prog}
@@ -18,6 +18,10 @@ module _ (s : Settings) where
   pub over-may : (a : Address) → Valid s a → over s .May a
   unfolding over
   over-may a v = v
+
+  pub may-valid : (a : Address) → over s .May a → Valid s a
+  unfolding over
+  may-valid a v = v
 
   pub over-read : (ws : List ℕ) (a : Address) → over s .read ws a ≡ readWord s ws a
   unfolding over

@@ -11,6 +11,7 @@ use Rattle.layout.specs.declared.settings.Settings.{Settings}
 use Rattle.layout.specs.declared.address.Address.the-variants.{Time, Field, Bits, Slot}
 use Rattle.layout.specs.Sizes.{levelLen, levelStart, pageLen, dirStart, blockHead, recordLen, blockLen, blockStart, layoutLen}
 use Rattle.layout.specs.Address.{bitsStart}
+use Rattle.layout.specs.SettingsLaws.{block-len}
 use Rattle.layout.specs.AddressLaws.{head-below, slot-below}
 use Rattle.layout.specs.Parts.{part, blockPart, levelPart, pagePart, blockWord, slotWord}
 use Rattle.layout.specs.Words.{readWord}
@@ -24,6 +25,7 @@ pub record Part (ws : List ℕ) (a n : ℕ) (r : List ℕ) : Type 0 where
 pub record BlockPart (s : Settings) (ws : List ℕ) (n : ℕ) (r : List ℕ) : Type 0 where
   pub is : r ≡ blockPart s ws n
   pub long : length r ≡ blockLen s
+  pub room : length r ≡ blockHead + recordLen * s .block
 
 pub record LevelPart (ws : List ℕ) (l : ℕ) (r : List ℕ) : Type 0 where
   pub is : r ≡ levelPart ws l
@@ -68,7 +70,7 @@ cleared-is s ws h {r} e =
 -- ---- the parts by what they are
 pub as-block : {s : Settings} {ws : List ℕ} {n a b : ℕ} {r : List ℕ} → a ≡ blockStart s n → b ≡ blockLen s → Part ws a b r → BlockPart s ws n r
 unfolding blockPart
-as-block e f p = record { is = p .is ∙ rw (e, f); long = p .long ∙ f }
+as-block {s} e f p = record { is = p .is ∙ rw (e, f); long = p .long ∙ f; room = p .long ∙ f ∙ block-len s }
 
 pub as-level : {ws : List ℕ} {l a b : ℕ} {r : List ℕ} → a ≡ levelStart l → b ≡ levelLen l → Part ws a b r → LevelPart ws l r
 unfolding levelPart
@@ -114,3 +116,19 @@ module _ (s : Settings) (ws : List ℕ) where
       part-at (levelPart ws l) (e * pageLen) pageLen i b
       ∙ part-at ws (levelStart l) (levelLen l) (e * pageLen + i) (omega arith)
       ∙ ap (λ (o : ℕ). getD ws o 0) (omega arith)
+
+-- ---- the same of a part that was handed out
+module _ {s : Settings} {ws : List ℕ} where
+  pub field-of : {n : ℕ} {r : List ℕ} → BlockPart s ws n r → (j : ℕ) → j < bitsStart → blockWord r j ≡ readWord s ws (Field n j)
+  field-of {n} p j h = rw (p .is) (block-word s ws n j h)
+
+  pub bits-of : {n : ℕ} {r : List ℕ} → BlockPart s ws n r → (w : ℕ) → w < 2 → blockWord r (bitsStart + w) ≡ readWord s ws (Bits n w)
+  bits-of {n} p w h = rw (p .is) (block-bits s ws n w h)
+
+  pub slot-of : {n : ℕ} {r : List ℕ} → BlockPart s ws n r → (k i : ℕ) → k < s .block → i < recordLen → slotWord r k i ≡ readWord s ws (Slot n k i)
+  slot-of {n} p k i h l = rw (p .is) (slot-word s ws n k i h l)
+
+-- (An index entry's place does not hang on the settings.)
+pub entry-of : (s : Settings) {ws : List ℕ} {l e : ℕ} {level page : List ℕ} → LevelPart ws l level → PagePart level e page → (i : ℕ)
+    → pageLen * e + pageLen ≤ levelLen l → i < pageLen → getD page i 0 ≡ readWord s ws (Time l (pageLen * e + i))
+entry-of s {ws} {l} {e} p q i h b = rw (q .is, p .is) (page-word s ws l e i h b)

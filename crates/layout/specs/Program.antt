@@ -1,8 +1,8 @@
 -- PROGRAMS: a call as a tree of reads and writes of addresses. It is run on the words, over an interpreter, and on a memory; the contracts speak of the
 -- first, the theorems of the second, and ProgramLaws joins them.
-use mathlib.Core.Bool.{Bool, true, false, cond}
+use mathlib.Core.Bool.{Bool, cond}
 use mathlib.Core.List.{List, [], _∷_}
-use Prim.Native.Nat.{ℕ, zero, suc, _+_}
+use Prim.Native.Nat.{ℕ}
 use Rattle.layout.specs.declared.address.Address.{Address}
 use Rattle.layout.specs.Memory.{Memory, put, wiped}
 use Rattle.layout.specs.Interp.{Interp}

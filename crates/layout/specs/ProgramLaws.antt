@@ -1,7 +1,7 @@
 -- A program does the same on the words and on the memory that the words are, if each address that it meets may be touched (Safe): `refine`.
-use mathlib.Core.Path.{_≡_, refl, sym, ap, _∙_, subst⁻¹}
-use mathlib.Core.Bool.{Bool, true, false, cond}
-use mathlib.Core.List.{List, [], _∷_}
+use mathlib.Core.Path.{_≡_, refl, ap, _∙_, subst⁻¹}
+use mathlib.Core.Bool.{true, false, cond}
+use mathlib.Core.List.{List}
 use Prim.Native.Nat.{ℕ}
 use lib.ListN.{length}
 use Rattle.layout.specs.declared.address.Address.{Address}

@@ -5,9 +5,9 @@ use mathlib.Core.List.{List, [], _∷_}
 use Prim.Native.Nat.{ℕ}
 use lib.ListN.{length}
 use Rattle.layout.specs.declared.address.Address.{Address}
-use Rattle.layout.specs.Interp.{Interp, Same}
+use Rattle.layout.specs.Interp.{Interp}
 use Rattle.layout.specs.Program.{Prog, ret, bind, when, each, run, runOn}
-use Rattle.layout.specs.ProgramLaws.{Safe, Agree, refine, run-length}
+use Rattle.layout.specs.ProgramLaws.{Safe, refine, run-length}
 
 -- the program p on the words w gave the value x and the words w′, which are a store
 pub record Ran {A : Type 0} (i : Interp) (p : Prog A) (w : List ℕ) (x : A) (w′ : List ℕ) : Type 0 where

@@ -7,7 +7,7 @@ use native.Mathlib.Nat.{mul-le-mul}
 use borrow.Author.Tests.{leb-true, le-leb}
 use Rattle.base.specs.Branch.{by-test, and-true}
 use Rattle.layout.specs.declared.settings.Settings.{Settings}
-use Rattle.layout.specs.Sizes.{blockLen, layoutLen}
+use Rattle.layout.specs.Sizes.{dirStart, blockHead, recordLen, blockLen, layoutLen}
 use Rattle.layout.specs.Settings.{inLimits, Within}
 
 module _ (s : Settings) where
@@ -53,16 +53,16 @@ module _ (s : Settings) where
   outside h = by-test (inLimits s) (λ t. t ≡ false) (λ e. absurd (h (limits-within e))) (λ e. refl)
 
   -- ---- lengths
-  pub block-len : blockLen s ≡ 8 + 4 * s .block
+  pub block-len : blockLen s ≡ blockHead + recordLen * s .block
   unfolding blockLen
   block-len = refl
 
-  pub layout-len : layoutLen s ≡ 4384 + s .tags + s .blocks * blockLen s
+  pub layout-len : layoutLen s ≡ dirStart + s .tags + s .blocks * blockLen s
   unfolding layoutLen
   layout-len = refl
 
   -- the head, the index and the directory come before the blocks
-  pub layout-least : 4384 + s .tags ≤ layoutLen s
+  pub layout-least : dirStart + s .tags ≤ layoutLen s
   layout-least = omega (arith, layout-len)
 
   pub block-most : Within s → blockLen s ≤ 264

@@ -8,11 +8,12 @@ use native.Mathlib.Omega.{arith}
 use lib.Dec.{eqb, ltb}
 use lib.ListN.{length, length-append}
 use lib.Bits.{and-le-l}
+use lib.Count.{ones-le}
 use borrow.Author.Tests.{eqb-true, eqb-false, eq-eqb, ne-eqb, lt-ltb, le-ltb}
 use Rattle.base.specs.Branch.{lt?, is?, and-true}
 use Rattle.base.specs.Bits.{bitAt, withBit, withoutBit, bit-two, with-here, with-other, with-below, without-here, without-other, without-below}
 use Rattle.base.specs.Places.{bitsFrom, bits-on, bits-off, next-below, Lists, lists-append, bits-list}
-use Rattle.base.specs.Slots.{slotsOf, slots-none, slots-next-low, slots-next-high}
+use Rattle.base.specs.Slots.{slotsOf, slots-count, slots-none, slots-next-low, slots-next-high}
 use Rattle.layout.specs.declared.standing.Standing.{Standing}
 use Rattle.layout.specs.Standing.{slots, stands, raised, lowered, firstSlot, otherSlots}
 
@@ -55,6 +56,13 @@ slots-next b w e = is? (b .low) 0
     let d : b .high ≡ 0 → ⊥ = eqb-false _ _ (rw (eq-eqb _ _ z) at e) in
     rw (eq-eqb _ _ z, z) (slots-next-high (b .high) (omega arith) (w .high)))
     (λ d. rw (ne-eqb _ _ d) (slots-next-low (b .low) (b .high) (omega arith) (w .low)))
+
+pub other-fewer : (b : Standing) → TwoWords b → none b ≡ false → length (slots (otherSlots b)) + 1 ≡ length (slots b)
+other-fewer b w e = rw (slots-next b w e) (omega arith)
+
+-- how many stand: the ones of both words, at most 64
+pub slots-most : (b : Standing) → TwoWords b → length (slots b) ≤ 64
+slots-most b w = omega (arith, slots-count (b .low) (b .high) (w .low) (w .high), ones-le 32 (b .low) (w .low), ones-le 32 (b .high) (w .high))
 
 pub first-below : (b : Standing) → TwoWords b → none b ≡ false → firstSlot b < 64
 unfolding firstSlot

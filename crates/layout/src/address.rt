@@ -25,7 +25,7 @@ pub enum Address {
 }
 
 // Where a level of the index starts.
-pub fn level_start(l: u32) -> usize
+pub(crate) fn level_start(l: u32) -> usize
     ensures { λ r. ⌜ LevelAt l r ⌝ }
 {
     if l == 0 {
@@ -38,7 +38,7 @@ pub fn level_start(l: u32) -> usize
 }
 
 // Where block n starts: blocks are counted from 1.
-pub fn block_start(s: Settings, n: u32) -> usize
+pub(crate) fn block_start(s: Settings, n: u32) -> usize
     requires { ⌜ Numbered s n ⌝ }
     requires { ⌜ Within s ⌝ }
     ensures { λ r. ⌜ BlockAt s n r ⌝ }
@@ -66,15 +66,17 @@ pub fn offset_of(s: Settings, a: Address) -> usize
     }
 }
 
+// The word at an address.
 pub fn read(store: &[u32], s: Settings, a: Address) -> u32
     requires { ⌜ Valid s a ⌝ }
     requires { ⌜ Held s (now store) ⌝ }
     ensures { λ r. ⌜ Ran (over s) (get! a) (now (store .entry)) r (now (store .entry)) ⌝ }
 {
-    let at = offset_of(s, a);
-    store[at]
+    let place = offset_of(s, a);
+    store[place]
 }
 
+// A word stored at an address; no other changes.
 pub fn write(store: &mut [u32], s: Settings, a: Address, v: u32)
     requires { ⌜ Valid s a ⌝ }
     requires { ⌜ Held s (now store) ⌝ }

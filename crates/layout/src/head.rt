@@ -1,6 +1,7 @@
 // The head of the store as one value: read with its refusals, and written.
 use crate::address;
 use crate::address::Address;
+use crate::fields;
 use crate::parts;
 use crate::refusal;
 use crate::settings::Settings;
@@ -128,7 +129,7 @@ impl Head {
     }
 
     // Records in the acceptor: 1 to b, and 0 where no block is opened.
-    pub fn fill_fits(self) -> bool
+    fn fill_fits(self) -> bool
         ensures { λ r. ⌜ r ≡ fillFits self ⌝ }
     {
         if self.cursor.opened == 0 {
@@ -142,7 +143,7 @@ impl Head {
 }
 
 // The head that the words hold, right or wrong.
-pub fn head_of(store: &[u32]) -> Head
+fn head_of(store: &[u32]) -> Head
     requires { ⌜ headLen ≤ length (now store) ⌝ }
     ensures { λ r. ⌜ r ≡ headOf (now (store .entry)) ⌝ }
 {
@@ -163,7 +164,7 @@ pub fn head_of(store: &[u32]) -> Head
 }
 
 // The last six words are zero.
-pub fn spare_zero(store: &[u32]) -> bool
+fn spare_zero(store: &[u32]) -> bool
     requires { ⌜ headLen ≤ length (now store) ⌝ }
     ensures { λ r. ⌜ r ≡ spareZero (now (store .entry)) ⌝ }
 {
@@ -186,7 +187,7 @@ pub fn spare_zero(store: &[u32]) -> bool
 }
 
 // Refusal 3: words that no start and no change left.
-pub fn bad_head(store: &[u32]) -> bool
+fn bad_head(store: &[u32]) -> bool
     requires { ⌜ headLen ≤ length (now store) ⌝ }
     ensures { λ r. ⌜ r ≡ badHead (now (store .entry)) ⌝ }
 {
@@ -250,11 +251,11 @@ pub fn write_cursor(store: &mut [u32], s: Settings, c: Cursor)
     requires { ⌜ Held s (now store) ⌝ }
     ensures { λ _. ⌜ Ran (over s) (storeCursor c) (now (store .entry)) tt (now (store .exit)) ⌝ }
 {
-    address::write(store, s, Address::Head(5), c.opened);
-    address::write(store, s, Address::Head(6), c.clock);
-    address::write(store, s, Address::Head(7), c.fill);
-    address::write(store, s, Address::Head(8), c.child);
-    address::write(store, s, Address::Head(9), c.right);
+    address::write(store, s, Address::Head(fields::HEAD_OPENED), c.opened);
+    address::write(store, s, Address::Head(fields::HEAD_CLOCK), c.clock);
+    address::write(store, s, Address::Head(fields::HEAD_FILL), c.fill);
+    address::write(store, s, Address::Head(fields::HEAD_CHILD), c.child);
+    address::write(store, s, Address::Head(fields::HEAD_RIGHT), c.right);
 }
 
 // The layout filled with zeros; words beyond it are untouched.

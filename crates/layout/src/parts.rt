@@ -13,7 +13,7 @@ ghost use Rattle.layout.specs.PartsLaws.{Part, BlockPart, LevelPart, Pag
 ghost use Rattle.layout.specs.OnWords.{Held};
 
 // `len` words from `start` on.
-pub fn part(words: &[u32], start: usize, len: usize) -> &[u32]
+fn part(words: &[u32], start: usize, len: usize) -> &[u32]
     requires { ⌜ start + len ≤ length (now words) ⌝ }
     ensures { λ r. ⌜ Part (now (words .entry)) start len (now r) ⌝ }
 {
@@ -32,7 +32,7 @@ pub fn block(store: &[u32], s: Settings, n: u32) -> &[u32]
 }
 
 // How many words a level of the index has.
-pub fn level_words(l: u32) -> usize
+fn level_words(l: u32) -> usize
     ensures { λ r. ⌜ r ≡ levelLen l ⌝ }
 {
     if l == 0 {
@@ -80,7 +80,7 @@ pub fn slot_word(block: &[u32], k: u32, i: u32) -> u32
 }
 
 // Every word of a part set to zero.
-pub fn zero_all(part: &mut [u32])
+fn zero_all(part: &mut [u32])
     ensures { λ _. ⌜ now (part .exit) ≡ replicate (length (now (part .entry))) 0 ⌝ }
 {
     let mut i = 0;
@@ -91,7 +91,7 @@ pub fn zero_all(part: &mut [u32])
 }
 
 // The words of a store from `start` on, `len` of them, set to zero.
-pub fn zero_part(store: &mut [u32], start: usize, len: usize)
+pub(crate) fn zero_part(store: &mut [u32], start: usize, len: usize)
     requires { ⌜ start + len ≤ length (now store) ⌝ }
     ensures { λ _. ⌜ now (store .exit) ≡ sets (now (store .entry)) start (replicate len 0) ⌝ }
 {

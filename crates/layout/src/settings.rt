@@ -86,7 +86,7 @@ impl Settings {
     }
 
     // How many words a block has.
-    pub fn block_words(self) -> usize
+    pub(crate) fn block_words(self) -> usize
         requires { ⌜ Within self ⌝ }
         ensures { λ r. ⌜ BlockLong self r ⌝ }
     {

@@ -16,7 +16,7 @@ pub struct Standing {
 }
 
 // Bit k of a word is 1.
-pub fn bit(x: u32, k: u32) -> bool
+fn bit(x: u32, k: u32) -> bool
     requires { ⌜ k < 32 ⌝ }
     ensures { λ r. ⌜ r ≡ eqb (bitAt k x) 1 ⌝ }
 {
@@ -24,7 +24,7 @@ pub fn bit(x: u32, k: u32) -> bool
 }
 
 // What bit k weighs.
-pub fn weight(k: u32) -> u32
+fn weight(k: u32) -> u32
     requires { ⌜ k < 32 ⌝ }
     ensures { λ r. ⌜ r ≡ 2 ^ k ⌝ }
 {
@@ -32,7 +32,7 @@ pub fn weight(k: u32) -> u32
 }
 
 // A word with bit k made 1.
-pub fn bit_on(x: u32, k: u32) -> u32
+fn bit_on(x: u32, k: u32) -> u32
     requires { ⌜ k < 32 ⌝ }
     ensures { λ r. ⌜ r ≡ withBit k x ⌝ }
 {
@@ -43,7 +43,7 @@ pub fn bit_on(x: u32, k: u32) -> u32
 }
 
 // A word with bit k made 0.
-pub fn bit_off(x: u32, k: u32) -> u32
+fn bit_off(x: u32, k: u32) -> u32
     requires { ⌜ k < 32 ⌝ }
     ensures { λ r. ⌜ r ≡ withoutBit k x ⌝ }
 {
@@ -54,7 +54,7 @@ pub fn bit_off(x: u32, k: u32) -> u32
 }
 
 // A word without its lowest one; 0 stays 0.
-pub fn lower_off(x: u32) -> u32
+fn lower_off(x: u32) -> u32
     ensures { λ r. ⌜ r ≡ lowerOff x ⌝ }
 {
     if x == 0 {

@@ -1,0 +1,142 @@
+-- The links that a cursor and a memory hold, and what the parts of a change do to them: `unlink` is a leaving of the row (Unlinked),
+-- `openBlock` an opening at its end (Opened), and a program that writes no block's seconds or links leaves them.
+use mathlib.Core.Path.{_≡_, refl, sym, _∙_, subst}
+use mathlib.Core.Bool.{Bool, true, false, cond}
+use Prim.Native.Nat.{ℕ, _+_, _≤_}
+use native.Mathlib.Omega.{arith}
+use lib.Dec.{eqb}
+use borrow.Author.Tests.{eqb-true, eqb-false, ne-eqb}
+use Rattle.base.specs.Branch.{cond-all, eqb-same}
+use Rattle.layout.specs.declared.head.Cursor.{Cursor}
+use Rattle.layout.specs.declared.address.Address.{Address}
+use Rattle.layout.specs.declared.address.Address.the-variants.{Head, Time, Dir, Field, Bits, Slot}
+use Rattle.layout.specs.Sizes.{OPEN}
+use Rattle.layout.specs.Fields.{openedWord, closedWord, upWord, leftWord, childWord, rightWord}
+use Rattle.layout.specs.Memory.{Memory}
+use Rattle.layout.specs.Program.{Prog, runOn}
+use Rattle.calls.specs.Placing.{enterTime, openBlock, unlink}
+use Rattle.theory.specs.Tree.{View}
+use Rattle.theory.specs.Row.{Put, Unlinked, Opened}
+use Rattle.theory.specs.RunLaws.{met, _then_, Only, framed}
+
+-- block 0's word is z, the others' are g's
+abbrev pub withFirst : ℕ → (ℕ → ℕ) → ℕ → ℕ
+withFirst z g n = cond (eqb n 0) z (g n)
+
+-- the links of a memory, with block 0's last child and right from the head; block 0 never closes
+abbrev pub viewOf : ℕ → ℕ → Memory → View
+viewOf child right f = record {
+  opened = λ n. f (Field n openedWord);
+  closed = withFirst OPEN (λ n. f (Field n closedWord));
+  up = λ n. f (Field n upWord);
+  left = λ n. f (Field n leftWord);
+  child = withFirst child (λ n. f (Field n childWord));
+  right = withFirst right (λ n. f (Field n rightWord));
+}
+
+abbrev pub view : Cursor → Memory → View
+view c f = viewOf (c .child) (c .right) f
+
+-- a block's closed word is what the view has
+pub closed-word : (c : Cursor) (f : Memory) (n : ℕ) → 1 ≤ n → view c f .closed n ≡ f (Field n closedWord)
+closed-word c f n h = rw (ne-eqb n 0 (omega arith))
+
+-- ---- one word changed
+pub put-is : (f : ℕ → ℕ) (x y : ℕ) → Put f (λ n. cond (eqb x n) y (f n)) x y
+put-is f x y = record { here = simp eqb-same; other = λ n d. simp (ne-eqb x n (λ z. d (sym z))) }
+
+put-later : (z : ℕ) (g : ℕ → ℕ) (x y : ℕ) → 1 ≤ x → Put (withFirst z g) (withFirst z (λ n. cond (eqb x n) y (g n))) x y
+put-later z g x y h = record { here = simp (ne-eqb x 0 (omega arith), eqb-same); other = λ n d. simp (ne-eqb x n (λ e. d (sym e))) }
+
+put-first : (z : ℕ) (g : ℕ → ℕ) (x y : ℕ) → x ≡ 0 → Put (withFirst z g) (withFirst y g) x y
+put-first z g x y h = record { here = rw h; other = λ n d. simp (ne-eqb n 0 (λ e. d (e ∙ sym h))) }
+
+-- a word of a block that was just set to zero
+put-new : (f : ℕ → ℕ) (x y : ℕ) → Put f (λ n. cond (eqb x n) y (cond (eqb x n) 0 (f n))) x y
+put-new f x y = record { here = simp eqb-same; other = λ n d. simp (ne-eqb x n (λ z. d (sym z))) }
+
+put-later-new : (z : ℕ) (g : ℕ → ℕ) (x y : ℕ) → 1 ≤ x → Put (withFirst z g) (withFirst z (λ n. cond (eqb x n) y (cond (eqb x n) 0 (g n)))) x y
+put-later-new z g x y h = record { here = simp (ne-eqb x 0 (omega arith), eqb-same); other = λ n d. simp (ne-eqb x n (λ e. d (sym e))) }
+
+-- ---- a block leaves the row
+pub unlink-effect : (c : Cursor) (f : Memory) (x now : ℕ) → 1 ≤ x → let z = runOn (unlink c x now) f in Unlinked (view c f) (view (z .0) (z .1)) x now
+unfolding unlink
+unlink-effect c f x now some =
+    let up = f (Field x upWord) in
+    let right = f (Field x rightWord) in
+    let d : eqb x 0 ≡ false = ne-eqb x 0 (omega arith) in
+    cond-all (λ (z : Cursor × Memory). Unlinked (view c f) (view (z .0) (z .1)) x now) (eqb up 0)
+    (λ e. record {
+      opened = λ n. refl;
+      closed = put-later OPEN (λ n. f (Field n closedWord)) x now some;
+      up = rw d (put-is (λ n. f (Field n upWord)) right up);
+      right = rw d (put-first (c .right) (λ n. f (Field n rightWord)) up right (eqb-true up 0 e));
+      left = rw e (put-is (λ n. f (Field n leftWord)) x (c .child));
+      child = put-first (c .child) (λ n. f (Field n childWord)) up x (eqb-true up 0 e);
+    })
+    (λ e.
+    let up1 : 1 ≤ up = omega (arith, eqb-false up 0 e) in
+    record {
+      opened = λ n. refl;
+      closed = put-later OPEN (λ n. f (Field n closedWord)) x now some;
+      up = rw d (put-is (λ n. f (Field n upWord)) right up);
+      right = rw d (put-later (c .right) (λ n. f (Field n rightWord)) up right up1);
+      left = rw e (put-is (λ n. f (Field n leftWord)) x (f (Field up childWord)));
+      child = put-later (c .child) (λ n. f (Field n childWord)) up x up1;
+    })
+
+-- ---- programs that write no second or link of a block
+abbrev pub linkless : Address → Bool
+linkless (Head j) = true
+linkless (Time l i) = true
+linkless (Dir t) = true
+linkless (Field n j) = false
+linkless (Bits n w) = true
+linkless (Slot n k i) = true
+
+pub view-kept : {A : Type 0} (child right : ℕ) (p : Prog A) (f : Memory) → Only linkless p
+    → viewOf child right ((runOn p f) .1) ≡ viewOf child right f
+view-kept child right p f o = λ i. record {
+  opened = λ n. framed linkless p f o (Field n openedWord) refl i;
+  closed = withFirst OPEN (λ n. framed linkless p f o (Field n closedWord) refl i);
+  up = λ n. framed linkless p f o (Field n upWord) refl i;
+  left = λ n. framed linkless p f o (Field n leftWord) refl i;
+  child = withFirst child (λ n. framed linkless p f o (Field n childWord) refl i);
+  right = withFirst right (λ n. framed linkless p f o (Field n rightWord) refl i);
+}
+
+-- ---- a block opens
+-- the times are written, and nothing else
+pub enter-only : (W : Address → Bool) → ((l i : ℕ) → W (Time l i) ≡ true) → (i now : ℕ) → Only W (enterTime i now)
+unfolding enterTime
+enter-only W h i now = met (h 0 i) then λ _. (met (h 1 _) then tt) then λ _. met (h 2 _) then tt
+
+pub open-effect : (c : Cursor) (f : Memory) (now : ℕ) → let z = runOn (openBlock c now) f in Opened (view c f) (view (z .0) (z .1)) (c .opened) now
+unfolding openBlock
+open-effect c f now =
+    let N = c .opened in
+    let g = (runOn (enterTime N now) f) .1 in
+    let some : 1 ≤ N + 1 = omega arith in
+    subst (λ (v : View). Opened v (view ((runOn (openBlock c now) f) .0) ((runOn (openBlock c now) f) .1)) N now)
+    (view-kept (c .child) (c .right) (enterTime N now) f (enter-only linkless (λ l i. refl) N now))
+    (cond-all (λ (z : Cursor × Memory). Opened (view c g) (view (z .0) (z .1)) N now) (eqb N 0)
+    (λ e.
+    let none = eqb-true N 0 e in
+    record {
+      opened = put-new (λ n. g (Field n openedWord)) (N + 1) now;
+      closed = put-later-new OPEN (λ n. g (Field n closedWord)) (N + 1) OPEN some;
+      up = put-new (λ n. g (Field n upWord)) (N + 1) N;
+      left = put-is (λ n. g (Field n leftWord)) (N + 1) 0;
+      child = put-later (c .child) (λ n. g (Field n childWord)) (N + 1) 0 some;
+      right = rw e;
+      rights = λ n l. absurd (omega arith);
+    })
+    (λ e. record {
+      opened = put-new (λ n. g (Field n openedWord)) (N + 1) now;
+      closed = put-later-new OPEN (λ n. g (Field n closedWord)) (N + 1) OPEN some;
+      up = put-new (λ n. g (Field n upWord)) (N + 1) N;
+      left = put-is (λ n. g (Field n leftWord)) (N + 1) 0;
+      child = put-later (c .child) (λ n. g (Field n childWord)) (N + 1) 0 some;
+      right = simp (e, eqb-same);
+      rights = λ n l. simp (ne-eqb N n (omega arith), ne-eqb (N + 1) n (omega arith));
+    }))

@@ -1,0 +1,108 @@
+-- WHAT HOLDS OF THE WORDS AFTER A HISTORY (Honest): they hold a head and a memory at rest, the log's readings, the block book and its count.
+use mathlib.Core.Path.{_≡_, sym, ap, _∙_}
+use mathlib.Core.List.{List}
+use Prim.Native.Nat.{ℕ, _+_, _*_, _-_, _≤_, _<_}
+use native.Mathlib.Omega.{arith}
+use lib.ListN.{length}
+use Rattle.layout.specs.declared.settings.Settings.{Settings}
+use Rattle.layout.specs.declared.head.Cursor.{Cursor}
+use Rattle.layout.specs.declared.head.Head.{Head}
+use Rattle.layout.specs.declared.address.Address.{Address}
+use Rattle.layout.specs.declared.address.Address.the-variants.{Field}
+use Rattle.layout.specs.Sizes.{OPEN}
+use Rattle.layout.specs.Fields.{openedWord, closedWord}
+use Rattle.layout.specs.Address.{Valid, Numbered}
+use Rattle.layout.specs.Memory.{Memory}
+use Rattle.layout.specs.Head.{headOf, placed}
+use Rattle.layout.specs.OnWords.{over}
+use Rattle.layout.specs.OverLaws.{over-fits}
+use Rattle.calls.specs.Step.{wordsRead, reader}
+use Rattle.calls.specs.Book.{recordsIn}
+use Rattle.calls.specs.History.{Account}
+use Rattle.calls.specs.Claims.{Agrees}
+use Rattle.theory.specs.Effects.{view}
+use Rattle.theory.specs.LogLaws.{Once, readings}
+use Rattle.theory.specs.Copies.{headWith}
+use Rattle.theory.specs.Rest.{Rest}
+use Rattle.theory.specs.BookCalls.{Booked, booked-block, booked-useful, booked-length, booked-opened, booked-closed, booked-records}
+use Rattle.theory.specs.Counting.{Counted, counted-bound}
+use Rattle.theory.specs.Stored.{Stored, stored-at, head-passes}
+use Rattle.theory.specs.Right.{LookSound}
+use Rattle.theory.specs.LookReady.{look-ready}
+use Rattle.theory.specs.LookAnswers.{Answers, walk-sound}
+
+pub record Honest (ws : List ℕ) (a : Account) : Type 0 where
+  pub settings : Settings
+  pub cursor : Cursor
+  pub memory : Memory
+  -- the words hold the head and the memory
+  pub stored : Stored ws (headWith settings cursor) memory
+  -- which are at rest and tell the log
+  pub rest : Rest settings (readings (a .log)) cursor memory
+  pub once : Once (a .log)
+  -- and show the book
+  pub booked : Booked settings (a .book) cursor memory
+  pub counted : Counted (a .sets) (a .book)
+
+module _ {ws : List ℕ} {a : Account} (i : Honest ws a) where
+  abbrev s : Settings
+  s = i .settings
+
+  abbrev c : Cursor
+  c = i .cursor
+
+  abbrev f : Memory
+  f = i .memory
+
+  pub head-is : headOf ws ≡ headWith s c
+  head-is = sym (i .stored .read .is)
+
+  -- a word that the calls read
+  pub word-is : (x : Address) → Valid s x → wordsRead ws x ≡ f x
+  word-is x v = ap (λ (h : Head). over (h .settings) .read ws x) head-is ∙ stored-at (i .stored) x v
+
+  block-numbered : (n : ℕ) → 1 ≤ n → n ≤ c .opened → Numbered s n
+  block-numbered n l h = record { low = l; high = omega (arith, i .rest .limit) }
+
+  blocks-long : length (a .book .blocks) ≡ c .opened
+  blocks-long = booked-length (i .booked)
+
+  -- ---- the store agrees with the book
+  placed-is : placed (headOf ws) ≡ recordsIn (a .book .blocks)
+  placed-is = ap placed head-is ∙ booked-records (i .booked)
+
+  pub agrees : Agrees ws (a .book)
+  agrees = record {
+    block = rw head-is (booked-block (i .booked));
+    useful = rw head-is (booked-useful (i .booked));
+    blocks = rw head-is (sym blocks-long);
+    opened = λ n l.
+        word-is (Field (n + 1) openedWord) (block-numbered (n + 1) (omega arith) (omega (arith, blocks-long)), omega arith)
+        ∙ booked-opened (i .booked) n (omega (arith, blocks-long));
+    closed = λ n l.
+        word-is (Field (n + 1) closedWord) (block-numbered (n + 1) (omega arith) (omega (arith, blocks-long)), omega arith)
+        ∙ booked-closed (i .booked) n (omega (arith, blocks-long));
+    records = placed-is;
+  }
+
+  -- ---- the bound
+  pub bound : placed (headOf ws) * (a .book .b - a .book .q + 1) ≤ a .book .b * a .sets
+  bound =
+      let w = i .rest .full .within in
+      rw placed-is (counted-bound (omega (arith, w .some, booked-useful (i .booked))) (omega (arith, w .half, booked-block (i .booked), booked-useful (i .booked))) (i .counted))
+
+  -- ---- the words answer look-backs
+  pub before-open : (t : ℕ) → t ≤ headOf ws .cursor .clock → t < OPEN
+  before-open t l = let k : t ≤ c .clock = rw head-is at l in omega (arith, i .rest .full .state .past)
+
+  pub sound : (t : ℕ) → t < OPEN
+      → LookSound (headOf ws .settings .block) (headOf ws .settings .tags) (headOf ws .cursor .opened) t (reader ws) (view c f)
+  sound t o = rw head-is (look-ready (i .stored) (i .rest .full .state) t o)
+
+  pub answers : Answers ws
+  answers = record {
+    long = i .stored .read .long;
+    passed = head-passes (i .stored .read);
+    room = rw head-is (over-fits s (i .stored .agree .good) .long);
+    walks = λ t o l. walk-sound ws (sound t o);
+  }

@@ -1,0 +1,75 @@
+-- The tree of closed blocks, the row of open ones, and what the parts of a change do to them
+pub mod Tree
+pub mod Row
+pub mod RunLaws
+pub mod Effects
+pub mod Times
+-- Records, their log, the directory and the standing bits
+pub mod Reading
+pub mod Records
+pub mod Timeline
+pub mod Directory
+pub mod Marks
+pub mod PartEffects
+-- The invariant, in the middle of a change and at rest
+pub mod State
+pub mod Moving
+pub mod Useful
+pub mod Rolling
+pub mod Changing
+pub mod Growth
+pub mod Fresh
+pub mod Copies
+pub mod Rest
+pub mod Closings
+-- Every address of an accepted change, and refusals 12 and 13
+pub mod SafeParts
+pub mod SafeLaws
+pub mod SafeCalls
+pub mod Sound
+-- The plain log
+pub mod SumLaws
+pub mod MemberLaws
+pub mod Joined
+pub mod LogLaws
+pub mod RecordRows
+pub mod EnoughRows
+-- The block book
+pub mod BookLaws
+pub mod BookTable
+pub mod Layers
+pub mod Counting
+pub mod BookOf
+pub mod BookReads
+pub mod BookRoll
+pub mod BookChange
+pub mod BookCalls
+-- The look-back, over any reader
+pub mod FoundWalk
+pub mod Listed
+pub mod FoundSearch
+pub mod SearchLaws
+pub mod WalkTree
+pub mod Looking
+pub mod LookFits
+pub mod Right
+pub mod AlikeReaders
+pub mod Passes
+pub mod ViewClaims
+pub mod StoreAlike
+pub mod LookAnswers
+pub mod LookLinks
+-- Words that hold a memory, and every call on any words
+pub mod HeadKept
+pub mod Stored
+pub mod Started
+pub mod EveryCall
+pub mod EveryLookBack
+-- Words after a history, and the theorems
+pub mod LookReady
+pub mod Honest
+pub mod HonestView
+pub mod SmallSteps
+pub mod HonestStep
+pub mod Never
+pub mod Whole

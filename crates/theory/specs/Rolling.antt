@@ -1,0 +1,231 @@
+-- Room in the acceptor. A full block closes with all its records going to an acceptor that has room for them (close-law); the old acceptor
+-- is judged once a block has opened (judge-law, roll-law); and so room is made (room-law). All laws hold in the midst of a change too.
+use mathlib.Core.Path.{_≡_, refl, _∙_, subst⁻¹}
+use mathlib.Core.Bool.{true, _||_}
+use mathlib.Core.List.{List, _∷_}
+use Prim.Native.Nat.{ℕ, _+_, _≤_, _<_}
+use native.Mathlib.Omega.{arith}
+use lib.Dec.{eqb, ltb}
+use lib.ListN.{length}
+use borrow.Author.Tests.{eqb-true, eqb-false, ne-eqb, ltb-true, ltb-false}
+use Rattle.base.specs.Branch.{cond-all, or-false}
+use Rattle.base.specs.Slots.{slotsOf}
+use Rattle.layout.specs.declared.settings.Settings.{Settings}
+use Rattle.layout.specs.declared.head.Cursor.{Cursor}
+use Rattle.layout.specs.declared.address.Address.the-variants.{Bits}
+use Rattle.layout.specs.Sizes.{OPEN}
+use Rattle.layout.specs.Settings.{Within}
+use Rattle.layout.specs.Memory.{Memory}
+use Rattle.layout.specs.Program.{runOn}
+use Rattle.calls.specs.Placing.{openBlock, unlink, endRecord, standing, putRecord, moveRecord, closeFull, judgeFull, roll, makeRoom}
+use Rattle.theory.specs.RunLaws.{each-walk}
+use Rattle.theory.specs.Effects.{view, unlink-effect, open-effect}
+use Rattle.theory.specs.Records.{Records}
+use Rattle.theory.specs.Timeline.{Timeline}
+use Rattle.theory.specs.Marks.{Marks, Pending}
+use Rattle.theory.specs.PartEffects.{recordsOf, open-records}
+use Rattle.theory.specs.State.{Shape, shape, State, pending, state-later, left-row, unlink-shape, open-cursor, open-shape, opened-block}
+use Rattle.theory.specs.Moving.{appended, MovedAt, Moving, moved-all, move-effect, move-step}
+use Rattle.theory.specs.Useful.{Useful, useful-move, useful-open, useful-close, useful-judged, useful-all}
+
+-- T differs from S at block x and above only
+pub record Beyond (x : ℕ) (S T : Shape) : Type 0 where
+  pub records : (n k : ℕ) → n < x → T .records n k ≡ S .records n k
+  pub closed : (n : ℕ) → n < x → T .view .closed n ≡ S .view .closed n
+  pub grows : S .opened ≤ T .opened
+
+pub beyond-refl : {x : ℕ} {S : Shape} → Beyond x S S
+beyond-refl = record { records = λ n k a. refl; closed = λ n a. refl; grows = omega arith }
+
+pub beyond-then : {x y : ℕ} {S T W : Shape} → Beyond x S T → Beyond y T W → x ≤ y → Beyond x S W
+beyond-then e f l = record {
+  records = λ n k a. f .records n k (omega arith) ∙ e .records n k a;
+  closed = λ n a. f .closed n (omega arith) ∙ e .closed n a;
+  grows = omega (arith, e .grows, f .grows);
+}
+
+beyond-move : {s : Settings} {x k now : ℕ} {S : Shape} {middle records : Records} {midmarks marks : Marks} {directory : ℕ → ℕ}
+    → MovedAt s S now x k middle records midmarks marks directory → x < S .opened → Beyond x S (appended S records marks directory)
+beyond-move e l = record {
+  records = λ n k a. e .begins .other n k (λ z. omega arith) ∙ e .ends .other n k (λ z. omega arith);
+  closed = λ n a. refl;
+  grows = omega arith;
+}
+
+-- the invariant with useful blocks, but for block x from second `from` on, and settings within their limits
+pub record Full (s : Settings) (Due : ℕ → Type 0) (x from clock : ℕ) (log : Timeline) (S : Shape) : Type 0 where
+  pub state : State s Due clock log S
+  pub useful : Useful s x from S
+  pub within : Within s
+  pub fits : S .fill ≤ s .block
+
+-- ---- a walk over the records of x, from the shape S₀, that fills the acceptor to `cap` at most
+pub record Inner (s : Settings) (Due : ℕ → Type 0) (now : ℕ) (log : Timeline) (x : ℕ) (S₀ : Shape) (cap : ℕ) (rest : List ℕ) (S : Shape)
+    : Type 0 where
+  pub moving : Moving s Due now log x rest S
+  pub useful : Useful s 0 0 S
+  pub beyond : Beyond x S₀ S
+  pub room : S .fill + length rest ≤ cap
+  pub opened : S .opened ≡ S₀ .opened
+
+-- what is left of it, in T, once block x has closed
+pub record Closed (s : Settings) (Due : ℕ → Type 0) (now : ℕ) (log : Timeline) (x cap : ℕ) (S T : Shape) : Type 0 where
+  pub state : State s Due now log T
+  pub useful : Useful s 0 0 T
+  pub beyond : Beyond x S T
+  pub room : T .fill ≤ cap
+  pub opened : T .opened ≡ S .opened
+
+module _ {s : Settings} {Due : ℕ → Type 0} {now : ℕ} {log : Timeline} {x cap : ℕ} where
+  pub inner-step : {S₀ : Shape} → cap ≤ s .block → (k : ℕ) (l : List ℕ) (c : Cursor) (f : Memory) → Inner s Due now log x S₀ cap (k ∷ l) (shape c f)
+      → let z = runOn (moveRecord s x now k c) f in Inner s Due now log x S₀ cap l (shape (z .0) (z .1))
+  unfolding moveRecord endRecord putRecord
+  inner-step fits k l c f m =
+      let e = move-effect s c f now x k in
+      record {
+        moving = move-step k l c f (m .moving) (omega (arith, m .room));
+        useful = useful-move (m .useful) (e .ends) (e .begins) (m .moving .closed-now);
+        beyond = beyond-then (m .beyond) (beyond-move e (m .moving .before)) (omega arith);
+        room = omega (arith, m .room);
+        opened = m .opened;
+      }
+
+  pub inner-start : {clock : ℕ} (c : Cursor) (f : Memory) (l : List ℕ) → State s Due clock log (shape c f) → Useful s x now (shape c f) → clock ≤ now
+      → now < OPEN → 1 ≤ x → x < c .opened → view c f .closed x ≡ OPEN → Pending (recordsOf f) x 0 l → c .fill + length l ≤ cap
+      → let z = runOn (unlink c x now) f in Inner s Due now log x (shape c f) cap l (shape (z .0) (z .1))
+  inner-start c f l i u later ends low inner o p room =
+      let e = unlink-effect c f x now low in
+      subst⁻¹ (λ (S : Shape). Inner s Due now log x (shape c f) cap l S) (unlink-shape c x now f) (record {
+        moving = record {
+          state = left-row i e later ends low inner o;
+          closed-now = e .closed .here;
+          before = inner;
+          lo = 0;
+          done = λ k y. absurd (omega arith);
+          pend = p;
+        };
+        useful = useful-close u e o;
+        beyond = record { records = λ n k a. refl; closed = λ n a. e .closed .other n (omega arith); grows = omega arith };
+        room = room;
+        opened = refl;
+      })
+
+module _ {s : Settings} {Due : ℕ → Type 0} {log : Timeline} where
+  pub close-law : {clock cap : ℕ} (c : Cursor) (f : Memory) (x now : ℕ) (l : List ℕ) → State s Due clock log (shape c f) → Useful s x now (shape c f)
+      → clock ≤ now → now < OPEN → 1 ≤ x → x < c .opened → view c f .closed x ≡ OPEN → Pending (recordsOf f) x 0 l → c .fill + length l ≤ cap
+      → cap ≤ s .block → let z = runOn (closeFull s c x now l) f in Closed s Due now log x cap (shape c f) (shape (z .0) (z .1))
+  unfolding closeFull
+  close-law {cap = cap} c f x now l i u later ends low inner o p room fits =
+      let z = runOn (unlink c x now) f in
+      let m = each-walk (λ y (d : Cursor) (g : Memory). Inner s Due now log x (shape c f) cap y (shape d g)) (moveRecord s x now)
+      (λ k y d g m. inner-step fits k y d g m) l (z .0) (z .1) (inner-start c f l i u later ends low inner o p room) in
+      record { state = moved-all (m .moving); useful = m .useful; beyond = m .beyond; room = omega (arith, m .room); opened = m .opened }
+
+  -- judged: it closes, or has q standing
+  pub judge-law : (c : Cursor) (f : Memory) (x now : ℕ) → State s Due now log (shape c f) → Useful s x now (shape c f) → Within s → 1 ≤ x
+      → x < c .opened → view c f .closed x ≡ OPEN → c .fill + s .useful ≤ s .block
+      → let z = runOn (judgeFull s c x now) f in Closed s Due now log x (c .fill + s .useful) (shape c f) (shape (z .0) (z .1))
+  unfolding judgeFull standing
+  judge-law c f x now i u z low inner o room =
+      let l = slotsOf (f (Bits x 0)) (f (Bits x 1)) in
+      cond-all (λ (w : Cursor × Memory). Closed s Due now log x (c .fill + s .useful) (shape c f) (shape (w .0) (w .1))) (ltb (length l) (s .useful))
+      (λ t. close-law c f x now l i u (omega arith) (i .past) low inner o (pending i x z) (omega (arith, ltb-true (length l) (s .useful) t)) room)
+      (λ t. record {
+        state = i;
+        useful = useful-judged i u (omega arith) (ltb-false (length l) (s .useful) t);
+        beyond = beyond-refl;
+        room = omega arith;
+        opened = refl;
+      })
+
+-- ---- a block opens, and the old acceptor is judged
+-- what holds once a block has opened: the old acceptor is to be judged
+pub record Grown (s : Settings) (Due : ℕ → Type 0) (now : ℕ) (log : Timeline) (c : Cursor) (f : Memory) (d : Cursor) (g : Memory) : Type 0 where
+  pub state : State s Due now log (shape d g)
+  pub useful : Useful s (c .opened) now (shape d g)
+  pub beyond : Beyond (c .opened) (shape c f) (shape d g)
+  pub opened : d .opened ≡ c .opened + 1
+  pub fill : d .fill ≡ 0
+  pub stands : view d g .closed (c .opened) ≡ OPEN
+
+-- room was made: with room nothing happens, without it one block opens
+pub record Rolled (s : Settings) (Due : ℕ → Type 0) (now : ℕ) (log : Timeline) (S T : Shape) : Type 0 where
+  pub full : Full s Due 0 0 now log T
+  pub beyond : Beyond (S .opened) S T
+  pub low : 1 ≤ T .opened
+  pub room : T .fill < s .block
+  pub stays : 1 ≤ S .opened → S .fill < s .block → T ≡ S
+  pub rolls : (1 ≤ S .opened → S .fill ≡ s .block) → (T .opened ≡ S .opened + 1) × (T .fill ≤ s .useful)
+
+-- room is made where there is no block, or the acceptor is full
+pub no-room : (s : Settings) (c : Cursor) → (eqb (c .opened) 0 || eqb (c .fill) (s .block)) ≡ true → 1 ≤ c .opened → c .fill ≡ s .block
+no-room s c t low = eqb-true (c .fill) (s .block) (rw (ne-eqb (c .opened) 0 (omega arith)) at t)
+
+module _ {s : Settings} {Due : ℕ → Type 0} {clock : ℕ} {log : Timeline} (c : Cursor) (f : Memory) (now : ℕ) (i : Full s Due 0 0 clock log (shape c f))
+    (later : clock ≤ now) (ends : now < OPEN) where
+  pub grown-law : (1 ≤ c .opened → c .fill ≡ s .block) → let z = runOn (openBlock c now) f in Grown s Due now log c f (z .0) (z .1)
+  grown-law full =
+      let e = open-effect c f now in
+      let m = open-records c now f in
+      let h = open-cursor c now f in
+      record {
+        state = opened-block c f (i .state) later ends full;
+        useful = subst⁻¹ (λ (S : Shape). Useful s (c .opened) now S) (open-shape c now f) (useful-open (i .useful) e m);
+        beyond = record {
+          records = λ n j y. m .other n j (omega arith);
+          closed = λ n y. e .closed .other n (omega arith);
+          grows = omega (arith, h .0);
+        };
+        opened = h .0;
+        fill = h .1;
+        stands = e .closed .other (c .opened) (omega arith) ∙ i .state .links .last;
+      }
+
+  pub roll-law : (1 ≤ c .opened → c .fill ≡ s .block) → let z = runOn (roll s c now) f in Rolled s Due now log (shape c f) (shape (z .0) (z .1))
+  unfolding roll
+  roll-law full =
+      let z = runOn (openBlock c now) f in
+      let o = grown-law full in
+      let w = i .within in
+      cond-all (λ (y : Cursor × Memory). Rolled s Due now log (shape c f) (shape (y .0) (y .1))) (eqb (c .opened) 0)
+      (λ t. record {
+        full = record {
+          state = o .state;
+          useful = useful-all (o .useful) (λ y. absurd (omega (arith, eqb-true (c .opened) 0 t)));
+          within = w;
+          fits = omega (arith, o .fill);
+        };
+        beyond = o .beyond;
+        low = omega (arith, o .opened);
+        room = omega (arith, o .fill, w .least);
+        stays = λ y r. absurd (omega (arith, full y));
+        rolls = λ _. (o .opened, omega (arith, o .fill));
+      })
+      (λ t.
+      let j = judge-law (z .0) (z .1) (c .opened) now (o .state) (o .useful) w (omega (arith, eqb-false (c .opened) 0 t)) (omega (arith, o .opened))
+      (o .stands) (omega (arith, o .fill, w .half)) in
+      record {
+        full = record { state = j .state; useful = j .useful; within = w; fits = omega (arith, j .room, o .fill, w .half) };
+        beyond = beyond-then (o .beyond) (j .beyond) (omega arith);
+        low = omega (arith, j .opened, o .opened);
+        room = omega (arith, j .room, o .fill, w .half, w .some);
+        stays = λ y r. absurd (omega (arith, full y));
+        rolls = λ _. (omega (arith, j .opened, o .opened), omega (arith, j .room, o .fill));
+      })
+
+  pub room-law : let z = runOn (makeRoom s c now) f in Rolled s Due now log (shape c f) (shape (z .0) (z .1))
+  unfolding makeRoom
+  room-law =
+      cond-all (λ (y : Cursor × Memory). Rolled s Due now log (shape c f) (shape (y .0) (y .1))) (eqb (c .opened) 0 || eqb (c .fill) (s .block))
+      (λ t. roll-law (no-room s c t))
+      (λ t.
+      let d = or-false (eqb (c .opened) 0) (eqb (c .fill) (s .block)) t in
+      let some : 1 ≤ c .opened = omega (arith, eqb-false (c .opened) 0 (d .0)) in
+      record {
+        full = record { state = state-later (i .state) later ends; useful = i .useful; within = i .within; fits = i .fits };
+        beyond = beyond-refl;
+        low = some;
+        room = omega (arith, eqb-false (c .fill) (s .block) (d .1), i .fits);
+        stays = λ y r. refl;
+        rolls = λ g. absurd (eqb-false (c .fill) (s .block) (d .1) (g some));
+      })

@@ -1,0 +1,122 @@
+-- A store alike, on any words: one with the same length, head, index pages passed and listed blocks gets the same answer to a look-back, both buffers'
+-- final words included (store-alike). The refusals see only length and head; the walk sees only the pages passed and the listed blocks.
+use mathlib.Core.Path.{_≡_, refl, sym, ap, _∙_}
+use mathlib.Core.Bool.{Bool, true, false, _||_}
+use mathlib.Core.List.{List}
+use Prim.Native.Nat.{ℕ, _<_}
+use native.Mathlib.Omega.{arith}
+use lib.Dec.{eqb}
+use lib.ListN.{length, getD, take}
+use lib.Seq.{getD-take}
+use Rattle.base.specs.Sums.{all-map}
+use Rattle.layout.specs.declared.head.Head.{Head}
+use Rattle.layout.specs.Sizes.{OPEN, headLen}
+use Rattle.layout.specs.Head.{headOf, badHead}
+use Rattle.layout.specs.Parts.{blockPart}
+use Rattle.calls.specs.Calls.{View}
+use Rattle.calls.specs.Walk.{Pass, Looked, unsoundly, looked}
+use Rattle.calls.specs.Step.{reader, lookAt, lookBack}
+use Rattle.calls.specs.Claims.{Alike, StoreAlike}
+use Rattle.theory.specs.AlikeReaders.{SameBlock, SamePage, look-alike}
+use Rattle.theory.specs.Passes.{PassTold, passed-pages, page-word}
+use Rattle.theory.specs.ViewClaims.{Seen, shown-seen, refusedBy, replyTo, few-blocks}
+
+-- ---- the head is in the first 16 words
+
+module _ (ws ws′ : List ℕ) (e : take headLen ws′ ≡ take headLen ws) where
+  word-same : (j : ℕ) → j < headLen → getD ws′ j 0 ≡ getD ws j 0
+  word-same j h = sym (getD-take headLen ws′ j 0 h) ∙ ap (λ (l : List ℕ). getD l j 0) e ∙ getD-take headLen ws j 0 h
+
+  pub head-same : headOf ws′ ≡ headOf ws
+  unfolding headOf
+  head-same =
+      rw (
+        word-same 1 (omega arith),
+        word-same 2 (omega arith),
+        word-same 3 (omega arith),
+        word-same 4 (omega arith),
+        word-same 5 (omega arith),
+        word-same 6 (omega arith),
+        word-same 7 (omega arith),
+        word-same 8 (omega arith),
+        word-same 9 (omega arith),
+      )
+
+  pub bad-head-same : badHead ws′ ≡ badHead ws
+  unfolding badHead
+  bad-head-same =
+      rw (
+        head-same,
+        word-same 0 (omega arith),
+        word-same 10 (omega arith),
+        word-same 11 (omega arith),
+        word-same 12 (omega arith),
+        word-same 13 (omega arith),
+        word-same 14 (omega arith),
+        word-same 15 (omega arith),
+      )
+
+-- ---- the reply is the same but for the store
+
+reply-same : (ws ws′ rows list : List ℕ) (w : Looked) (n : ℕ) (c : Bool) → replyTo ws′ rows list w n c ≡ record {
+  answer = replyTo ws rows list w n c .answer;
+  store = ws′;
+  rows = replyTo ws rows list w n c .rows;
+  list = replyTo ws rows list w n c .list;
+}
+reply-same ws ws′ rows list unsoundly n true = refl
+reply-same ws ws′ rows list (looked r l ps) n true = refl
+reply-same ws ws′ rows list unsoundly n false = refl
+reply-same ws ws′ rows list (looked r l ps) n false = refl
+
+module _ (ws ws′ : List ℕ) (t : ℕ) (rows list : List ℕ) where
+  look-back-same : length ws′ ≡ length ws → headOf ws′ ≡ headOf ws → badHead ws′ ≡ badHead ws → lookAt ws′ t ≡ lookAt ws t
+      → lookBack ws′ t rows list ≡ record {
+        answer = lookBack ws t rows list .answer;
+        store = ws′;
+        rows = lookBack ws t rows list .rows;
+        list = lookBack ws t rows list .list;
+      }
+  unfolding lookBack
+  look-back-same long head bad walk =
+      let n = refusedBy ws t rows list (lookAt ws t) in
+      rw (walk, long, head, bad) (reply-same ws ws′ rows list (lookAt ws t) n (eqb n 0 || eqb n 12))
+
+  -- ---- the walk is the same
+
+  module _ (v : View) (x : Seen ws t rows list v) (a : Alike ws ws′ v) where
+    head : headOf ws′ ≡ headOf ws
+    head = head-same ws ws′ (a .head)
+
+    root-same : reader ws .root ≡ reader ws′ .root
+    unfolding reader
+    root-same = ap (λ (h : Head). h .cursor .child) (sym head)
+
+    block-same : (n : ℕ) → blockPart (headOf ws .settings) ws′ n ≡ blockPart (headOf ws .settings) ws n → SameBlock (reader ws) (reader ws′) n
+    unfolding reader
+    block-same n e = record { same = rw head (sym e) }
+
+    -- a pass is what the view's word of its level tells
+    page-same : (p : Pass) → PassTold 3 (x .passes) p → SamePage (reader ws) (reader ws′) p
+    unfolding reader
+    page-same p o =
+        let shown : getD (v .pages) (p .level) OPEN ≡ p .number =
+        ap (λ (v : View). getD (v .pages) (p .level) OPEN) (x .view) ∙ page-word (v .rows) (v .list) (x .passes) (p .level) (o .low) ∙ o .told in
+        record { same = sym (rw shown at (a .pages (p .level) (o .low) (rw shown (o .some)))) }
+
+    walk-same : lookAt ws′ t ≡ lookAt ws t
+    unfolding lookAt
+    walk-same =
+        let b = headOf ws .settings .block in
+        let d = headOf ws .settings .tags in
+        let N = headOf ws .cursor .opened in
+        rw head (look-alike (reader ws) (reader ws′) b d N t (x .walked) root-same (all-map block-same (a .blocks))
+        (all-map page-same (passed-pages b d N t (reader ws) (few-blocks ws (x .passed)) (x .walked))) ∙ sym (x .walked))
+
+pub store-alike : (ws : List ℕ) (t : ℕ) (rows list : List ℕ) → StoreAlike ws t rows list
+store-alike ws t rows list = record {
+  same-answer = λ ws′ v e a.
+      let x = shown-seen ws t rows list v e in
+      let head = head-same ws ws′ (a .head) in
+      rw e at (look-back-same ws ws′ t rows list (a .long) head (bad-head-same ws ws′ (a .head)) (walk-same ws ws′ t rows list v x a));
+}

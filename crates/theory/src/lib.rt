@@ -1,0 +1,2 @@
+// The proofs of demands 2 and 3 over the definitions of calls. No code.
+fn nothing() {}
