@@ -5,11 +5,7 @@ use lib.Dec.{eqb}
 use Rattle.layout.specs.declared.settings.Settings.{Settings}
 use Rattle.layout.specs.declared.address.Address.{Address}
 use Rattle.layout.specs.declared.address.Address.the-variants.{Head, Time, Dir, Field, Bits, Slot}
-use Rattle.layout.specs.Sizes.{headLen, levelLen, levelStart, dirStart, blockHead, recordLen, blockStart}
-
--- the standing bits are the last two words of a block's head
-abbrev pub bitsStart : ℕ
-bitsStart = blockHead - 2
+use Rattle.layout.specs.Sizes.{headLen, levelLen, levelStart, dirStart, blockHead, recordLen, blockStart, bitsStart}
 
 -- where a word lies
 abbrev pub offset : Settings → Address → ℕ

@@ -10,8 +10,8 @@ use Rattle.base.specs.Branch.{and-true}
 use Rattle.layout.specs.declared.settings.Settings.{Settings}
 use Rattle.layout.specs.declared.address.Address.{Address}
 use Rattle.layout.specs.declared.address.Address.the-variants.{Head, Time, Dir, Field, Bits, Slot}
-use Rattle.layout.specs.Sizes.{levelLen, levelStart, dirStart, blockLen, blockStart, layoutLen}
-use Rattle.layout.specs.Address.{offset, Valid, Numbered, Code, code, eqA, bitsStart}
+use Rattle.layout.specs.Sizes.{levelLen, levelStart, dirStart, blockLen, blockStart, layoutLen, bitsStart, blockHead, recordLen}
+use Rattle.layout.specs.Address.{offset, Valid, Numbered, Code, code, eqA}
 
 -- ---- the test
 -- the address that four numbers are
@@ -57,11 +57,11 @@ module _ (s : Settings) where
       let m : n - 1 < s .blocks = omega arith in
       omega (arith, digits-lt m h)
 
-  pub slot-below : (k i : ℕ) → k < s .block → i < 4 → 8 + (4 * k + i) < blockLen s
+  pub slot-below : (k i : ℕ) → k < s .block → i < recordLen → blockHead + (recordLen * k + i) < blockLen s
   unfolding blockLen
   slot-below k i a b = omega arith
 
-  pub head-below : (j : ℕ) → j < 8 → j < blockLen s
+  pub head-below : (j : ℕ) → j < blockHead → j < blockLen s
   unfolding blockLen
   head-below j a = omega arith
 
@@ -80,11 +80,12 @@ module _ (s : Settings) where
   offset-below (Dir t) v = dir-below (dirStart + t) (omega arith)
   offset-below (Field n j) v = in-block j (head-below j (omega arith)) n (v .0)
   offset-below (Bits n w) v = in-block (bitsStart + w) (head-below (bitsStart + w) (omega arith)) n (v .0)
-  offset-below (Slot n k i) v = in-block (8 + (4 * k + i)) (slot-below k i (v .1) (v .2)) n (v .0)
+  offset-below (Slot n k i) v = in-block (blockHead + (recordLen * k + i)) (slot-below k i (v .1) (v .2)) n (v .0)
 
   -- the address at a place: reading the layout backwards
   inBlock : ℕ → ℕ → Address
-  inBlock n j = cond (ltb j 6) (Field n j) (cond (ltb j 8) (Bits n (j - 6)) (Slot n ((j - 8) / 4) ((j - 8) % 4)))
+  inBlock n j = cond (ltb j bitsStart) (Field n j)
+      (cond (ltb j (bitsStart + 2)) (Bits n (j - bitsStart)) (Slot n ((j - blockHead) / recordLen) ((j - blockHead) % recordLen)))
 
   locate : ℕ → Address
   locate o =
@@ -143,15 +144,15 @@ module _ (s : Settings) where
         lt-ltb (4384 + t) (4384 + s .tags) (omega arith),
         e,
       )
-  locate-offset (Field n j) v = locate-block n j (v .0 .low) (head-below j (omega arith)) ∙ simp (lt-ltb j 6 (v .1))
+  locate-offset (Field n j) v = locate-block n j (v .0 .low) (head-below j (omega arith)) ∙ simp (lt-ltb j bitsStart (v .1))
   locate-offset (Bits n w) v =
-      let e : 6 + w - 6 ≡ w = omega arith in
-      locate-block n (6 + w) (v .0 .low) (head-below (6 + w) (omega arith)) ∙ simp (le-ltb (6 + w) 6 (omega arith), lt-ltb (6 + w) 8 (omega arith), e)
+      let e : bitsStart + w - bitsStart ≡ w = omega arith in
+      locate-block n (bitsStart + w) (v .0 .low) (head-below (bitsStart + w) (omega arith)) ∙ simp (le-ltb (bitsStart + w) bitsStart (omega arith), lt-ltb (bitsStart + w) (bitsStart + 2) (omega arith), e)
   locate-offset (Slot n k i) v =
-      let j = 8 + (4 * k + i) in
-      let e : (j - 8) / 4 ≡ k = omega arith in
-      let e′ : (j - 8) % 4 ≡ i = omega arith in
-      locate-block n j (v .0 .low) (slot-below k i (v .1) (v .2)) ∙ simp (le-ltb j 6 (omega arith), le-ltb j 8 (omega arith), e, e′)
+      let j = blockHead + (recordLen * k + i) in
+      let e : (j - blockHead) / recordLen ≡ k = omega arith in
+      let e′ : (j - blockHead) % recordLen ≡ i = omega arith in
+      locate-block n j (v .0 .low) (slot-below k i (v .1) (v .2)) ∙ simp (le-ltb j bitsStart (omega arith), le-ltb j (bitsStart + 2) (omega arith), e, e′)
 
   -- two addresses of a store never share a word
   pub offset-inj : (a x : Address) → Valid s a → Valid s x → offset s a ≡ offset s x → a ≡ x

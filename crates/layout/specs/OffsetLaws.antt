@@ -8,7 +8,7 @@ use lib.ListN.{length, getD, set, replicate, length-set}
 use lib.Seq.{sets, length-sets}
 use Rattle.layout.specs.declared.settings.Settings.{Settings}
 use Rattle.layout.specs.declared.address.Address.{Address}
-use Rattle.layout.specs.Sizes.{levelStart, dirStart, blockLen, blockStart, layoutLen}
+use Rattle.layout.specs.Sizes.{levelStart, dirStart, blockLen, blockStart, layoutLen, layoutMost}
 use Rattle.layout.specs.Address.{Numbered, Valid, offset}
 use Rattle.layout.specs.Program.{get!, set!, wipe! }
 use Rattle.layout.specs.Settings.{Within}
@@ -27,13 +27,13 @@ pub record LevelAt (l r : ℕ) : Type 0 where
 pub record BlockAt (s : Settings) (n r : ℕ) : Type 0 where
   pub is : r ≡ blockStart s n
   pub room : r + blockLen s ≤ layoutLen s
-  pub small : layoutLen s ≤ 1089824
+  pub small : layoutLen s ≤ layoutMost
 
 -- the word a lies at r
 pub record Placed (s : Settings) (a : Address) (r : ℕ) : Type 0 where
   pub is : r ≡ offset s a
   pub below : r < layoutLen s
-  pub small : layoutLen s ≤ 1089824
+  pub small : layoutLen s ≤ layoutMost
 
 -- behind the second level there is one more
 pub level-last : (l : ℕ) → (l ≡ 0 → ⊥) → (l ≡ 1 → ⊥) → levelStart l ≡ 4368
@@ -50,7 +50,7 @@ module _ (s : Settings) (n : ℕ) (v : Numbered s n) where
 
 -- the code's sum, by the block's length that it was given
 module _ {s : Settings} {n b : ℕ} (v : Numbered s n) (w : Within s) (e : BlockLong s b) where
-  pub starts-small : dirStart + s .tags + (n - 1) * b ≤ 1089824
+  pub starts-small : dirStart + s .tags + (n - 1) * b ≤ layoutMost
   starts-small = rw (e .is) (omega (arith, block-room s n v, layout-most s w))
 
   pub starts : BlockAt s n (dirStart + s .tags + (n - 1) * b)

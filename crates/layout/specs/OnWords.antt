@@ -15,8 +15,8 @@ use Rattle.base.specs.Branch.{cmp?}
 use Rattle.layout.specs.declared.settings.Settings.{Settings}
 use Rattle.layout.specs.declared.address.Address.{Address}
 use Rattle.layout.specs.declared.address.Address.the-variants.{Head, Time, Dir, Field, Bits, Slot}
-use Rattle.layout.specs.Sizes.{levelStart, dirStart, blockHead, recordLen, blockLen, blockStart, layoutLen}
-use Rattle.layout.specs.Address.{offset, Valid, Numbered, eqA, ofBlock, bitsStart}
+use Rattle.layout.specs.Sizes.{levelStart, dirStart, blockHead, recordLen, blockLen, blockStart, layoutLen, bitsStart}
+use Rattle.layout.specs.Address.{offset, Valid, Numbered, eqA, ofBlock}
 use Rattle.layout.specs.Interp.{Interp}
 use Rattle.layout.specs.Settings.{Within}
 use Rattle.layout.specs.Words.{readWord, writeWord, wipeBlock, Fits}

@@ -9,8 +9,7 @@ use lib.Seq.{getD-take, getD-drop, drop-drop, sets, sets-eq}
 use borrow.Rule.Slice.PartMut.{putMid}
 use Rattle.layout.specs.declared.settings.Settings.{Settings}
 use Rattle.layout.specs.declared.address.Address.the-variants.{Time, Field, Bits, Slot}
-use Rattle.layout.specs.Sizes.{levelLen, levelStart, pageLen, dirStart, blockHead, recordLen, blockLen, blockStart, layoutLen}
-use Rattle.layout.specs.Address.{bitsStart}
+use Rattle.layout.specs.Sizes.{levelLen, levelStart, pageLen, dirStart, blockHead, recordLen, blockLen, blockStart, layoutLen, bitsStart}
 use Rattle.layout.specs.SettingsLaws.{block-len}
 use Rattle.layout.specs.AddressLaws.{head-below, slot-below}
 use Rattle.layout.specs.Parts.{part, blockPart, levelPart, pagePart, blockWord, slotWord}

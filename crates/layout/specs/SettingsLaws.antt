@@ -7,7 +7,7 @@ use native.Mathlib.Nat.{mul-le-mul}
 use borrow.Author.Tests.{leb-true, le-leb}
 use Rattle.base.specs.Branch.{by-test, and-true}
 use Rattle.layout.specs.declared.settings.Settings.{Settings}
-use Rattle.layout.specs.Sizes.{dirStart, blockHead, recordLen, blockLen, layoutLen}
+use Rattle.layout.specs.Sizes.{dirStart, blockHead, recordLen, blockLen, layoutLen, blockMost, layoutMost}
 use Rattle.layout.specs.Settings.{inLimits, Within}
 
 module _ (s : Settings) where
@@ -65,18 +65,18 @@ module _ (s : Settings) where
   pub layout-least : dirStart + s .tags ≤ layoutLen s
   layout-least = omega (arith, layout-len)
 
-  pub block-most : Within s → blockLen s ≤ 264
+  pub block-most : Within s → blockLen s ≤ blockMost
   block-most w = omega (arith, block-len)
 
-  pub layout-most : Within s → layoutLen s ≤ 1089824
+  pub layout-most : Within s → layoutLen s ≤ layoutMost
   layout-most w = omega (arith, layout-len, mul-le-mul (w .blocks) (block-most w))
 
 -- r is how many words a block has, and how long a store must be
 pub record BlockLong (s : Settings) (r : ℕ) : Type 0 where
   pub is : r ≡ blockLen s
   pub some : 16 ≤ r
-  pub small : r ≤ 264
+  pub small : r ≤ blockMost
 
 pub record StoreLong (s : Settings) (r : ℕ) : Type 0 where
   pub is : r ≡ layoutLen s
-  pub small : r ≤ 1089824
+  pub small : r ≤ layoutMost

@@ -21,6 +21,10 @@ pageLen = 16
 abbrev pub blockHead : ℕ
 blockHead = 8
 
+-- the two words of standing bits stand behind the six of seconds and links
+abbrev pub bitsStart : ℕ
+bitsStart = 6
+
 -- tag, reading, from, to
 abbrev pub recordLen : ℕ
 recordLen = 4
@@ -54,3 +58,10 @@ blockStart s n = dirStart + s .tags + (n - 1) * blockLen s
 -- how long a store must be
 unfoldable pub layoutLen : Settings → ℕ
 layoutLen s = dirStart + s .tags + s .blocks * blockLen s
+
+-- with every setting at its limit
+abbrev pub blockMost : ℕ
+blockMost = blockHead + recordLen * 64
+
+abbrev pub layoutMost : ℕ
+layoutMost = dirStart + 4096 + 4096 * blockMost

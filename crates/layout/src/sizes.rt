@@ -14,7 +14,7 @@ pub const PAGE_LEN: usize = 16;
 // the first words of a block: seconds, links and standing bits
 pub const BLOCK_HEAD: usize = 8;
 
-// the standing bits are the last two words of a block's head
+// the two words of standing bits stand behind the six of seconds and links
 pub const BITS_START: usize = 6;
 
 // a slot's record: tag, reading, from, to

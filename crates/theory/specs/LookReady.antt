@@ -11,7 +11,7 @@ use Rattle.base.specs.Sums.{is, total}
 use Rattle.layout.specs.declared.head.Head.{Head}
 use Rattle.layout.specs.declared.address.Address.{Address}
 use Rattle.layout.specs.declared.address.Address.the-variants.{Time, Field, Slot}
-use Rattle.layout.specs.Sizes.{OPEN, levelLen, pageLen}
+use Rattle.layout.specs.Sizes.{OPEN, levelLen, pageLen, bitsStart, recordLen}
 use Rattle.layout.specs.Fields.{closedWord, upWord, leftWord, childWord, tagWord, readingWord, fromWord, toWord}
 use Rattle.layout.specs.Address.{Valid, Numbered}
 use Rattle.layout.specs.Memory.{Memory}
@@ -44,11 +44,11 @@ module _ {ws : List ℕ} {h : Head} {f : Memory} (i : Stored ws h f) where
   same-settings : headOf ws .settings ≡ h .settings
   same-settings = ap (λ (x : Head). x .settings) (sym (i .read .is))
 
-  reader-block : (n j : ℕ) → Numbered (h .settings) n → j < 6 → blockWord (reader ws .block n) j ≡ f (Field n j)
+  reader-block : (n j : ℕ) → Numbered (h .settings) n → j < bitsStart → blockWord (reader ws .block n) j ≡ f (Field n j)
   unfolding reader
   reader-block n j v l = rw same-settings (block-word (h .settings) ws n j l ∙ word-at (Field n j) (v, l))
 
-  reader-slot : (n k j : ℕ) → Numbered (h .settings) n → k < h .settings .block → j < 4 → slotWord (reader ws .block n) k j ≡ f (Slot n k j)
+  reader-slot : (n k j : ℕ) → Numbered (h .settings) n → k < h .settings .block → j < recordLen → slotWord (reader ws .block n) k j ≡ f (Slot n k j)
   unfolding reader
   reader-slot n k j v b l = rw same-settings (slot-word (h .settings) ws n k j b l ∙ word-at (Slot n k j) (v, b, l))
 
