@@ -9,5 +9,6 @@ pub mod settings;
 mod sizes;
 pub mod standing;
 
+pub use sizes::HEAD_LEN;
 pub use sizes::OPEN;
 pub use sizes::ROW_LEN;

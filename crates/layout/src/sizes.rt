@@ -1,4 +1,5 @@
-// The numbers of words (specs/Sizes.antt says the same). Nothing outside of this crate knows one of them, but for OPEN.
+// The numbers of words (specs/Sizes.antt says the same). Nothing outside of this crate names one of them but OPEN, the head's length
+// (a store shorter than a head is refused as such) and a row's.
 
 // an end not yet known
 pub const OPEN: u32 = 4294967295;

@@ -1,0 +1,2 @@
+pub mod Replied
+pub mod ReplyLaws

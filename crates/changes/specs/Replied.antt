@@ -1,0 +1,16 @@
+-- WHAT A CHANGE CALL ANSWERS AND LEAVES: the reply of the definition (calls.specs.Step), refused calls too.
+use mathlib.Core.Path.{_≡_}
+use mathlib.Core.List.{List}
+use Prim.Native.Nat.{ℕ}
+use Rattle.calls.specs.Calls.{Answer, Reply}
+use Rattle.calls.specs.Calls as calls
+use Rattle.changes.specs.declared.Change.{Change}
+use Rattle.changes.specs.declared.Change.the-variants.{Done, Refused}
+
+abbrev pub answerOf : Change → Answer
+answerOf (Done h) = calls.Done h
+answerOf (Refused n) = calls.Refused n
+
+pub record Replied (r : Reply) (change : Change) (words : List ℕ) : Type 0 where
+  pub answer : answerOf change ≡ r .answer
+  pub store : words ≡ r .store

@@ -1,0 +1,122 @@
+// THE CHANGE CALLS: start, set, clear, new reading and clock move, on any lent words. Each first decides (all tests of document 01's list, no write),
+// then writes; its answer and all words that it leaves are those of the definition (calls.specs.Step), refused calls too.
+//
+// Cost: a change touches a bounded number of blocks and reads what it needs only. No loop runs over the blocks, tags or seconds of a store but in
+// `start`, which fills the layout with zeros. A new block's words are set to zero in one loop; a closing moves its standing records one by one,
+// straight from their slots, with no array of records.
+use decisions::StartVerdict;
+use decisions::Verdict;
+use layout::head;
+use layout::head::Cursor;
+use layout::head::Head;
+ghost use Rattle.calls.specs.Step.{start, set, clear, update, advance};
+ghost use Rattle.decisions.specs.Start.{settingsOf};
+ghost use Rattle.changes.specs.Replied.{Replied};
+
+// What a call answers: the next head, or its refusal by the paper's number.
+pub enum Change {
+    Done(Head),
+    Refused(u32),
+}
+
+// A new register: the layout filled with zeros, then the head.
+pub fn start(store: &mut [u32], block: u32, useful: u32, blocks: u32, tags: u32) -> Change
+    ensures { λ r. ⌜ Replied (start (now (store .entry)) (settingsOf block useful blocks tags)) r (now (store .exit)) ⌝ }
+{
+    let verdict = decisions::decide_start(store, block, useful, blocks, tags);
+    match verdict {
+        StartVerdict::Refused(n) => Change::Refused(n),
+        StartVerdict::Go(s) => {
+            head::clear_layout(store, s);
+            let c = Cursor {
+                opened: 0,
+                clock: 0,
+                fill: 0,
+                child: 0,
+                right: 0,
+            };
+            let h = Head {
+                settings: s,
+                cursor: c,
+            };
+            head::write_head(store, h);
+            Change::Done(h)
+        }
+    }
+}
+
+// A tag is set with a reading.
+pub fn set(store: &mut [u32], second: u32, tag: u32, reading: u32) -> Change
+    ensures { λ r. ⌜ Replied (set (now (store .entry)) second tag reading) r (now (store .exit)) ⌝ }
+{
+    let verdict = decisions::decide_set(store, second, tag);
+    match verdict {
+        Verdict::Refused(n) => Change::Refused(n),
+        Verdict::Go(h) => {
+            let s = h.settings;
+            let c = h.cursor;
+            let next = placing::changes::set_program(store, s, c, second, tag, reading);
+            Change::Done(Head {
+                settings: s,
+                cursor: next,
+            })
+        }
+    }
+}
+
+// A tag's standing record ends.
+pub fn clear(store: &mut [u32], second: u32, tag: u32) -> Change
+    ensures { λ r. ⌜ Replied (clear (now (store .entry)) second tag) r (now (store .exit)) ⌝ }
+{
+    let verdict = decisions::decide_clear(store, second, tag);
+    match verdict {
+        Verdict::Refused(n) => Change::Refused(n),
+        Verdict::Go(h) => {
+            let s = h.settings;
+            let c = h.cursor;
+            let next = placing::changes::clear_program(store, s, c, second, tag);
+            Change::Done(Head {
+                settings: s,
+                cursor: next,
+            })
+        }
+    }
+}
+
+// A new reading: a clear and a set at the same second.
+pub fn update(store: &mut [u32], second: u32, tag: u32, reading: u32) -> Change
+    ensures { λ r. ⌜ Replied (update (now (store .entry)) second tag reading) r (now (store .exit)) ⌝ }
+{
+    let verdict = decisions::decide_update(store, second, tag);
+    match verdict {
+        Verdict::Refused(n) => Change::Refused(n),
+        Verdict::Go(h) => {
+            let s = h.settings;
+            let c = h.cursor;
+            let next = placing::changes::update_program(store, s, c, second, tag, reading);
+            Change::Done(Head {
+                settings: s,
+                cursor: next,
+            })
+        }
+    }
+}
+
+// The clock moves on.
+pub fn advance(store: &mut [u32], second: u32) -> Change
+    ensures { λ r. ⌜ Replied (advance (now (store .entry)) second) r (now (store .exit)) ⌝ }
+{
+    let verdict = decisions::decide_advance(store, second);
+    match verdict {
+        Verdict::Refused(n) => Change::Refused(n),
+        Verdict::Go(h) => {
+            let s = h.settings;
+            let c = h.cursor;
+            let next = placing::changes::advance_program(store, s, c, second);
+            Change::Done(Head {
+                settings: s,
+                cursor: next,
+            })
+        }
+    }
+}

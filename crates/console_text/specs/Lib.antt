@@ -1,0 +1,16 @@
+pub mod Bytes
+pub mod Decimal
+pub mod Reading
+pub mod Output
+pub mod Fields
+pub mod Input
+pub mod Lines
+pub mod DecimalLaws
+pub mod PieceLaws
+pub mod DigitsLaws
+pub mod OutputLaws
+pub mod FieldsLaws
+pub mod InputLaws
+pub mod LinesLaws
+pub mod RoundTrip
+pub mod Examples

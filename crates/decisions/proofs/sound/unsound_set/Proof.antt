@@ -1,0 +1,23 @@
+-- `sound::unsound_set` meets its contract.
+use borrow.Author.Tests.{eq-eqb}
+use borrow.Author.Needs.{needs}
+use Rattle.calls.specs.Refusals.{unsoundSet}
+use Rattle.decisions.proofs.sound.unsound_set.Statement.{statement}
+use Rattle.decisions.proofs.sound.unsound_set.Tie as tie
+
+returns : tie.Need-returns
+unfolding unsoundSet
+returns c = simp (eq-eqb _ _ (c .if1 .taken))
+
+bits-of-requires : tie.Need-bits-of-requires
+bits-of-requires c κs = search needs
+
+acceptor-is-bad-requires : tie.Need-acceptor-is-bad-requires
+acceptor-is-bad-requires c κs = search needs
+
+returns-2 : tie.Need-returns-2
+unfolding unsoundSet
+returns-2 c = simp (c .acceptor-is-bad .ensures, c .before .bits-of .ensures)
+
+pub unsound-set-spec : {M : Type 1} → statement M
+unsound-set-spec = tie.close (tie.spec returns bits-of-requires acceptor-is-bad-requires returns-2)

@@ -1,0 +1,112 @@
+// Whether a call is accepted, by the words that it finds: the refusals of document 01, "When a call is turned away", in their order. The store is only
+// read here, on any words, also on those that no history left; a place, slot or block is looked at only once it is known to lie in the store.
+mod effect;
+mod own;
+mod sound;
+mod start;
+
+use layout::head;
+use layout::head::Head;
+use layout::head::HeadAnswer;
+use layout::refusal;
+pub use start::StartVerdict;
+pub use start::decide_start;
+ghost use mathlib.Core.Path.{_≡_};
+ghost use mathlib.Core.List.{[]};
+ghost use Prim.Native.Nat.{_≤_};
+ghost use Rattle.layout.specs.Head.{headOf};
+ghost use Rattle.layout.specs.HeadLaws.{SoundHead};
+ghost use Rattle.calls.specs.Refusals.{timeTests, setTests, clearTests};
+ghost use Rattle.calls.specs.Step.{wordsRead};
+ghost use Rattle.decisions.specs.Verdict.{ruled, verdict, timeOwn};
+ghost use Rattle.decisions.specs.TestLaws.{First};
+
+// A change or clock move that may go on from this head, or its refusal.
+pub enum Verdict {
+    Go(Head),
+    Refused(u32),
+}
+
+// A refusal number as a verdict: 0 is none.
+fn ruled(h: Head, n: u32) -> Verdict
+    ensures { λ r. ⌜ r ≡ ruled n h ⌝ }
+{
+    if n == 0 {
+        return Verdict::Go(h);
+    }
+    Verdict::Refused(n)
+}
+
+// Refusals 4, 5 and 6: what is tested once the head is read.
+fn time_refusal(store: &[u32], h: Head, second: u32) -> u32
+    requires { ⌜ SoundHead h ⌝ }
+    ensures { λ r. ⌜ First (timeOwn h (now (store .entry)) second []) r ⌝ }
+{
+    if store.len() < h.settings.words() {
+        return refusal::SHORT_STORE;
+    }
+    if layout::OPEN <= second {
+        return refusal::TIME_OPEN;
+    }
+    if second < h.cursor.clock {
+        return refusal::EARLY;
+    }
+    0
+}
+
+// A clock move: refusals 2 to 6, which are the first of every change.
+pub fn decide_advance(store: &[u32], second: u32) -> Verdict
+    ensures { λ r. ⌜ r ≡ verdict (timeTests (now (store .entry)) second []) (headOf (now (store .entry))) ⌝ }
+{
+    let answer = head::read_head(store);
+    match answer {
+        HeadAnswer::Refused(n) => Verdict::Refused(n),
+        HeadAnswer::Read(h) => {
+            let n = time_refusal(store, h, second);
+            ruled(h, n)
+        }
+    }
+}
+
+// A set: refusals 2 to 6, then 8, 9, 12 and 13.
+pub fn decide_set(store: &[u32], second: u32, tag: u32) -> Verdict
+    ensures { λ r. ⌜ r ≡ verdict (setTests (now (store .entry)) (wordsRead (now (store .entry))) second tag) (headOf (now (store .entry))) ⌝ }
+{
+    let time = decide_advance(store, second);
+    match time {
+        Verdict::Refused(n) => Verdict::Refused(n),
+        Verdict::Go(h) => {
+            let n = own::set_refusal(store, h, tag);
+            ruled(h, n)
+        }
+    }
+}
+
+// A clear (more = 0) or a new reading (more = 1): refusals 2 to 6, then 8, 10, 12 and 13.
+fn decide_clearing(store: &[u32], second: u32, tag: u32, more: u32) -> Verdict
+    requires { ⌜ more ≤ 1 ⌝ }
+    ensures { λ r. ⌜ r ≡ verdict (clearTests more (now (store .entry)) (wordsRead (now (store .entry))) second tag) (headOf (now (store .entry))) ⌝ }
+{
+    let time = decide_advance(store, second);
+    match time {
+        Verdict::Refused(n) => Verdict::Refused(n),
+        Verdict::Go(h) => {
+            let n = own::clear_refusal(store, h, tag, more);
+            ruled(h, n)
+        }
+    }
+}
+
+// A clear places copies only.
+pub fn decide_clear(store: &[u32], second: u32, tag: u32) -> Verdict
+    ensures { λ r. ⌜ r ≡ verdict (clearTests 0 (now (store .entry)) (wordsRead (now (store .entry))) second tag) (headOf (now (store .entry))) ⌝ }
+{
+    decide_clearing(store, second, tag, 0)
+}
+
+// A new reading places its record besides.
+pub fn decide_update(store: &[u32], second: u32, tag: u32) -> Verdict
+    ensures { λ r. ⌜ r ≡ verdict (clearTests 1 (now (store .entry)) (wordsRead (now (store .entry))) second tag) (headOf (now (store .entry))) ⌝ }
+{
+    decide_clearing(store, second, tag, 1)
+}

@@ -1,0 +1,2 @@
+pub mod AbleLaws
+pub mod LoopLaws

@@ -1,0 +1,25 @@
+-- `moves::place` meets its contract: one step, then the other.
+use borrow.Author.Needs.{needs}
+use Rattle.layout.specs.Able.{able-first, able-next}
+use Rattle.layout.specs.Ran.{then}
+use Rattle.calls.specs.Placing.{place}
+use Rattle.placing.proofs.moves.place.Statement.{statement}
+use Rattle.placing.proofs.moves.place.Tie as tie
+
+make-room-requires : tie.Need-make-room-requires
+unfolding place
+make-room-requires c κs = able-first (c .before .before .pre)
+
+put-record-requires : tie.Need-put-record-requires
+unfolding place
+put-record-requires c κs = able-next (c .before .before .before .before .before .before .pre) (c .before .before .before .make-room .ensures)
+
+same-length : tie.Need-same-length
+same-length c = search needs
+
+returns : tie.Need-returns
+unfolding place
+returns c = then (c .before .before .before .before .before .before .make-room .ensures) (c .before .before .put-record .ensures)
+
+pub place-spec : {M : Type 1} → statement M
+place-spec = tie.close (tie.spec make-room-requires put-record-requires same-length returns)

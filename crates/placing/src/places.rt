@@ -1,0 +1,42 @@
+// Places, which the directory keeps: slot k (from 0) of block n has place (n - 1) * b + k + 1.
+use layout::settings::Settings;
+ghost use mathlib.Core.Path.{_≡_};
+ghost use Prim.Native.Nat.{_-_};
+ghost use Rattle.layout.specs.Settings.{Within};
+ghost use Rattle.calls.specs.Placing.{placeOf, blockOf, slotOf};
+ghost use Rattle.placing.specs.Steps.{Spot};
+
+// The place of slot k of block n.
+pub fn place_of(s: Settings, n: u32, k: u32) -> u32
+    requires { ⌜ Spot s n k ⌝ }
+    ensures { λ r. ⌜ r ≡ placeOf s n k ⌝ }
+{
+    (n - 1) * s.block + k + 1
+}
+
+// How many places come before one. (Place 0 is none; no call that is accepted comes with it.)
+fn earlier(place: u32) -> u32
+    ensures { λ r. ⌜ r ≡ place - 1 ⌝ }
+{
+    if place == 0 {
+        return 0;
+    }
+    place - 1
+}
+
+// The block of a place.
+pub fn block_of(s: Settings, place: u32) -> u32
+    requires { ⌜ Within s ⌝ }
+    ensures { λ r. ⌜ r ≡ blockOf s place ⌝ }
+{
+    let full = earlier(place) / s.block;
+    full + 1
+}
+
+// The slot of a place.
+pub fn slot_of(s: Settings, place: u32) -> u32
+    requires { ⌜ Within s ⌝ }
+    ensures { λ r. ⌜ r ≡ slotOf s place ⌝ }
+{
+    earlier(place) % s.block
+}

@@ -1,0 +1,101 @@
+-- `index::search` meets its contract: each way out is a law of the search.
+use Rattle.timeslice.specs.SearchLaws.{none-read, few-read, top-page, top-entry, search-empty, search-before, search-stop, search-on}
+use borrow.Author.Needs.{needs}
+use Rattle.timeslice.proofs.index.search.Statement.{statement}
+use Rattle.timeslice.proofs.index.search.Tie as tie
+
+at-requires : tie.Need-at-requires
+at-requires c κs = search needs
+
+returns : tie.Need-returns
+returns c = search-empty _ _ _ (c .before .if1 .taken) (c .at .ensures)
+
+top-level-requires : tie.Need-top-level-requires
+top-level-requires c κs = search needs
+
+look-up-requires : tie.Need-look-up-requires
+look-up-requires c κs = (top-page (c .before .before .before .pre) (c .before .if1 .left) (c .top-level .ensures))
+
+at-requires-2 : tie.Need-at-requires-2
+at-requires-2 c κs = search needs
+
+passing-requires : tie.Need-passing-requires
+passing-requires c κs = none-read (c .at2 .ensures)
+
+returns-2 : tie.Need-returns-2
+returns-2 c =
+    let at-if2 = c .before .before in
+    let at-look-up = at-if2 .before in
+    let at-top-level = at-look-up .before in
+    let at-if1 = at-top-level .before in
+    search-before _ _ _ (at-if1 .if1 .left) (at-top-level .top-level .ensures) (at-look-up .look-up .ensures)
+    (at-if2 .if2 .taken) (c .before .at2 .ensures) (c .passing .ensures)
+
+sub-descend : tie.Need-sub-descend
+sub-descend c = search needs
+
+descend-requires : tie.Need-descend-requires
+descend-requires c κs =
+    let at-top-level = c .before .before in
+    let at-if1 = at-top-level .before in
+    let start = at-if1 .before .before in
+    (top-entry (top-page (start .pre) (at-if1 .if1 .left) (at-top-level .top-level .ensures)) _ _ (c .before .look-up .ensures)
+    (c .if2 .left))
+
+enum-told : tie.Need-enum-told
+enum-told c = search needs
+
+enum-known-found : tie.Need-enum-known-found
+enum-known-found c = search needs
+
+passing-requires-2 : tie.Need-passing-requires-2
+passing-requires-2 c κs =
+    let at-descend = c .before .before .before in
+    let at-if2 = at-descend .before in
+    let at-look-up = at-if2 .before in
+    let at-top-level = at-look-up .before in
+    let at-if1 = at-top-level .before in
+    let start = at-if1 .before .before in
+    few-read
+    (top-entry (top-page (start .pre) (at-if1 .if1 .left) (at-top-level .top-level .ensures)) _ _ (at-look-up .look-up .ensures) (at-if2 .if2 .left)) _ _
+    (at-descend .descend .ensures) (c .before .found .given .1)
+
+returns-3 : tie.Need-returns-3
+returns-3 c =
+    let at-descend = c .before .before in
+    let at-if2 = at-descend .before in
+    let at-look-up = at-if2 .before in
+    let at-top-level = at-look-up .before in
+    let at-if1 = at-top-level .before in
+    search-stop _ _ _ (at-if1 .if1 .left) (at-top-level .top-level .ensures) (at-look-up .look-up .ensures) (at-if2 .if2 .left)
+    (at-descend .descend .ensures) (c .enum-told .given .1)
+
+returns-4 : tie.Need-returns-4
+returns-4 c =
+    let at-found = c .before .before in
+    let at-descend = at-found .before .before in
+    let at-if2 = at-descend .before in
+    let at-look-up = at-if2 .before in
+    let at-top-level = at-look-up .before in
+    let at-if1 = at-top-level .before in
+    search-on _ _ _ (at-if1 .if1 .left) (at-top-level .top-level .ensures) (at-look-up .look-up .ensures) (at-if2 .if2 .left)
+    (at-descend .descend .ensures) (at-found .found .given .1) (c .passing2 .ensures)
+
+pub search-spec : {M : Type 1} → statement M
+search-spec =
+    tie.close
+    (tie.spec
+    at-requires
+    returns
+    top-level-requires
+    look-up-requires
+    at-requires-2
+    passing-requires
+    returns-2
+    sub-descend
+    descend-requires
+    enum-told
+    enum-known-found
+    passing-requires-2
+    returns-3
+    returns-4)

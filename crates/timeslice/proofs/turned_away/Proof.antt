@@ -1,0 +1,90 @@
+-- `turned_away` meets its contract: each test is one of the table's.
+use native.Mathlib.Omega.{arith}
+use Rattle.timeslice.specs.AnswerLaws.{own-short, own-open, own-late, own-rows, own-list, own-none}
+use borrow.Author.Needs.{needs}
+use Rattle.timeslice.proofs.turned_away.Statement.{statement}
+use Rattle.timeslice.proofs.turned_away.Tie as tie
+
+words-requires : tie.Need-words-requires
+words-requires c κs = search needs
+
+returns : tie.Need-returns
+returns c =
+    let a = c .before .before .args in
+    own-short (a .h) (a .words) (a .second) (a .rows) (a .list) (c .before .words .ensures) (c .if1 .taken)
+
+returns-2 : tie.Need-returns-2
+returns-2 c =
+    let at-words = c .before .before in
+    let start = at-words .before in
+    let a = start .args in
+    own-open (a .h) (a .words) (a .second) (a .rows) (a .list) (at-words .words .ensures) (c .before .if1 .left) (c .if2 .taken)
+
+returns-3 : tie.Need-returns-3
+returns-3 c =
+    let at-if2 = c .before .before in
+    let at-if1 = at-if2 .before in
+    let at-words = at-if1 .before in
+    let start = at-words .before in
+    let a = start .args in
+    own-late (a .h) (a .words) (a .second) (a .rows) (a .list) (at-words .words .ensures) (at-if1 .if1 .left)
+    (at-if2 .if2 .left, omega arith) (c .if3 .taken)
+
+cast-if4 : tie.Need-cast-if4
+cast-if4 c = search needs
+
+mul-if4 : tie.Need-mul-if4
+mul-if4 c = search needs
+
+returns-4 : tie.Need-returns-4
+returns-4 c =
+    let at-if3 = c .before .before in
+    let at-if2 = at-if3 .before .before in
+    let at-if1 = at-if2 .before in
+    let at-words = at-if1 .before in
+    let start = at-words .before in
+    let a = start .args in
+    own-rows (a .h) (a .words) (a .second) (a .rows) (a .list) (at-words .words .ensures) (at-if1 .if1 .left)
+    (at-if2 .if2 .left, omega arith) (at-if3 .if3 .left) (c .if4 .taken)
+
+cast-if5 : tie.Need-cast-if5
+cast-if5 c = search needs
+
+returns-5 : tie.Need-returns-5
+returns-5 c =
+    let at-if4 = c .before .before in
+    let at-if3 = at-if4 .before .before in
+    let at-if2 = at-if3 .before .before in
+    let at-if1 = at-if2 .before in
+    let at-words = at-if1 .before in
+    let start = at-words .before in
+    let a = start .args in
+    own-list (a .h) (a .words) (a .second) (a .rows) (a .list) (at-words .words .ensures) (at-if1 .if1 .left)
+    (at-if2 .if2 .left, omega arith) (at-if3 .if3 .left) (at-if4 .if4 .left) (c .if5 .taken)
+
+returns-6 : tie.Need-returns-6
+returns-6 c =
+    let at-if4 = c .before .before in
+    let at-if3 = at-if4 .before .before in
+    let at-if2 = at-if3 .before .before in
+    let at-if1 = at-if2 .before in
+    let at-words = at-if1 .before in
+    let start = at-words .before in
+    let a = start .args in
+    own-none (a .h) (a .words) (a .second) (a .rows) (a .list) (at-words .words .ensures) (at-if1 .if1 .left)
+    (at-if2 .if2 .left, omega arith) (at-if3 .if3 .left) (at-if4 .if4 .left) (c .if5 .left)
+
+pub turned-away-spec : {M : Type 1} → statement M
+turned-away-spec =
+    tie.close
+    (tie.spec
+    words-requires
+    returns
+    returns-2
+    returns-3
+    cast-if4
+    mul-if4
+    returns-4
+    cast-if5
+    returns-5
+    returns-6)

@@ -1,0 +1,61 @@
+-- WHAT A LOOK-BACK ANSWERS IN CODE, and the words that it leaves: those of the definition (calls, `lookBack`), on any words and any two buffers.
+use mathlib.Core.Path.{_≡_}
+use mathlib.Core.Bool.{_||_}
+use mathlib.Core.List.{List, [], _∷_}
+use Prim.Native.Nat.{ℕ, _*_}
+use lib.Dec.{ltb}
+use lib.ListN.{getD}
+use Rattle.layout.specs.declared.head.Head.{Head}
+use Rattle.layout.specs.Sizes.{OPEN, rowLen, layoutLen}
+use Rattle.calls.specs.Calls.{Row, View, Answer, Done, Shown, Refused as RefusedBy}
+use Rattle.calls.specs.Walk.{Pass, Looked as Walked, unsoundly, looked}
+use Rattle.calls.specs.Refusals.{Test, isOpen}
+use Rattle.calls.specs.Step.{lookBack, lookAt, seen, viewOf, rowWords, written}
+use Rattle.timeslice.specs.declared.Slice.{Slice}
+use Rattle.timeslice.specs.declared.Looked.{Looked}
+use Rattle.timeslice.specs.declared.Looked.the-variants.{Answered, Refused}
+use Rattle.timeslice.specs.declared.Seen.{Seen}
+use Rattle.timeslice.specs.declared.Seen.the-variants.{Whole, Unsound}
+
+-- a view's three numbers, and its page on each of the three levels
+abbrev pub sliceOf : View → Slice
+sliceOf v = record {
+  counts = record { rows = v .counts .rows; pages = v .counts .pages; blocks = v .counts .blocks };
+  page0 = getD (v .pages) 0 OPEN;
+  page1 = getD (v .pages) 1 OPEN;
+  page2 = getD (v .pages) 2 OPEN;
+}
+
+-- A view is answered, a refusal has its number. (No look-back answers with a head.)
+abbrev pub answerOf : Answer → Looked
+answerOf (Done h) = Refused 0
+answerOf (Shown v) = Answered (sliceOf v)
+answerOf (RefusedBy n) = Refused n
+
+-- The contract: the answer, and all lent words as the call leaves them.
+pub record LookedBack (ws : List ℕ) (t : ℕ) (rows list : List ℕ) (r : Looked) (rows′ list′ : List ℕ) : Type 0 where
+  pub answer : r ≡ answerOf (lookBack ws t rows list .answer)
+  pub row-words : rows′ ≡ lookBack ws t rows list .rows
+  pub list-words : list′ ≡ lookBack ws t rows list .list
+  pub store-words : ws ≡ lookBack ws t rows list .store
+
+-- ---- the parts
+-- what the walk over the words says: its rows and list at the start of the buffers, or that it is unsound, the buffers being anything
+pub data Sees (w : Walked) (rows list : List ℕ) : Seen → List ℕ → List ℕ → Type 0 where
+  whole : {r : List Row} {l : List ℕ} {ps : List Pass} {s : Slice} {rows′ list′ : List ℕ} → w ≡ looked r l ps → s ≡ sliceOf (viewOf r l ps)
+      → rows′ ≡ written (rowWords r) rows → list′ ≡ written l list → Sees w rows list (Whole s) rows′ list′
+  broken : {rows′ list′ : List ℕ} → w ≡ unsoundly → Sees w rows list Unsound rows′ list′
+
+-- a look-back to which no refusal but 12 applies
+pub record Answers (ws : List ℕ) (t : ℕ) (rows list : List ℕ) (r : Looked) (rows′ list′ : List ℕ) : Type 0 where
+  pub answer : r ≡ answerOf (seen ws rows list (lookAt ws t) .answer)
+  pub row-words : rows′ ≡ seen ws rows list (lookAt ws t) .rows
+  pub list-words : list′ ≡ seen ws rows list (lookAt ws t) .list
+
+-- the refusals between the head's and the walk's, for a store, a row buffer and a list of these lengths
+abbrev pub ownTests : Head → ℕ → ℕ → ℕ → ℕ → List Test
+ownTests h words t rows list =
+    record { number = 4; applies = ltb words (layoutLen (h .settings)) }
+    ∷ record { number = 5; applies = isOpen t }
+    ∷ record { number = 7; applies = ltb (h .cursor .clock) t }
+    ∷ record { number = 11; applies = ltb rows (rowLen * h .settings .tags) || ltb list (h .settings .blocks) } ∷ []

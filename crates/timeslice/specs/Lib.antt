@@ -1,0 +1,10 @@
+pub mod Taken
+pub mod Told
+pub mod Searching
+pub mod Answer
+pub mod TakenLaws
+pub mod ToldLaws
+pub mod VisitLaws
+pub mod PathLaws
+pub mod SearchLaws
+pub mod AnswerLaws

@@ -1,0 +1,208 @@
+-- The path's answers: each way out of the code tells the path as it is defined, and each turn of the loop leaves a shorter path to tell. A path lists no
+-- more blocks than its number.
+use mathlib.Core.Path.{_≡_, _∙_}
+use mathlib.Core.List.{List, [], _∷_, _++_}
+use Prim.Native.Nat.{ℕ, zero, suc, _+_, _-_, _≤_, _<_}
+use native.Mathlib.Omega.{arith}
+use lib.Dec.{eqb, leb}
+use lib.ListN.{length, length-append}
+use borrow.Author.Tests.{eq-eqb, ne-eqb, le-leb, lt-leb, leb-false}
+use Rattle.base.specs.Branch.{cond-all}
+use Rattle.layout.specs.declared.settings.Settings.{Settings}
+use Rattle.layout.specs.declared.head.Head.{Head}
+use Rattle.layout.specs.Sizes.{OPEN}
+use Rattle.layout.specs.Address.{Numbered}
+use Rattle.layout.specs.Fields.{closedWord, upWord, leftWord, childWord}
+use Rattle.layout.specs.Parts.{blockWord}
+use Rattle.calls.specs.Calls.{Row}
+use Rattle.calls.specs.Walk.{Reader, Walk, andThen, listed, rowsOf, neighbour, visit, path}
+use Rattle.calls.specs.Step.{reader}
+use Rattle.timeslice.specs.declared.Counts.{Counts}
+use Rattle.timeslice.specs.declared.walk.Walked.{Walked}
+use Rattle.timeslice.specs.declared.walk.Walked.the-variants.{Done, Unsound}
+use Rattle.timeslice.specs.declared.walk.Step.{Step}
+use Rattle.timeslice.specs.declared.walk.Climbed.{Climbed}
+use Rattle.timeslice.specs.declared.walk.Climbed.the-variants.{On, Unsound as NotOn}
+use Rattle.timeslice.specs.Told.{Told, bad, VisitTold, PathTold, blockWalk, Climbs, on, above, full, upOf, Readable, Space, Gap, Reach, Under}
+use Rattle.timeslice.specs.ToldLaws.{told-then, told-stop, told-none, told-found, buffers-same}
+use Rattle.timeslice.specs.VisitLaws.{Short, none, few, visit-short, short-found}
+
+-- ---- a path from n lists no more than n blocks
+listed-path : {n up : ℕ} (r : List Row) {v w : Walk} → Short up n v → Short 0 (suc up) w → Short 0 (suc n) (listed n r v w)
+listed-path r none none = none
+listed-path r none (few h) = none
+listed-path r (few h) none = none
+listed-path {n} r (few {l = l} g) (few {l = l′} h) = few {l = n ∷ (l ++ l′)} (simp length-append (omega arith))
+
+pub path-short : (b t : ℕ) (R : Reader) (fuel n : ℕ) → Short 0 (suc n) (path b t R fuel n)
+unfolding path
+path-short b t R zero n = none
+path-short b t R (suc fuel) n =
+    cond-all (Short 0 (suc n)) (eqb n 0) (λ e. few {l = []} (omega arith))
+    (λ e. cond-all (Short 0 (suc n)) (leb n (upOf R n)) (λ i. none)
+    (λ i. listed-path (rowsOf b t (R .block n))
+    (visit-short b t R (suc n) (upOf R n) n (neighbour R n) (leb-false n (upOf R n) i)) (path-short b t R fuel (upOf R n))))
+
+-- ---- the left neighbour
+module _ (R : Reader) (n : ℕ) {block : List ℕ} (is : block ≡ R .block n) {closed : ℕ} (c : closed ≡ blockWord block closedWord) where
+  pub own-left : (closed ≡ OPEN → ⊥) → {left : ℕ} → left ≡ blockWord block leftWord → left ≡ neighbour R n
+  unfolding neighbour
+  own-left h e = rw (← is, ← c, ne-eqb closed OPEN h, e)
+
+  module _ (h : closed ≡ OPEN) {up : ℕ} (u : up ≡ blockWord block upWord) where
+    pub root-child : up ≡ 0 → {root : ℕ} → root ≡ R .root → root ≡ neighbour R n
+    unfolding neighbour
+    root-child z e = rw (← is, ← c, eq-eqb closed OPEN h, ← u, eq-eqb up 0 z, e)
+
+    pub up-child : (up ≡ 0 → ⊥) → {over : List ℕ} → over ≡ R .block up → {child : ℕ} → child ≡ blockWord over childWord → child ≡ neighbour R n
+    unfolding neighbour
+    up-child z i e = rw (← is, ← c, eq-eqb closed OPEN h, ← u, ne-eqb up 0 z, ← i, e)
+
+-- block 0's last child is the head's
+pub root-is : {ws : List ℕ} {h : Head} → Readable ws h → h .cursor .child ≡ reader ws .root
+unfolding reader
+root-is r = rw (r .is)
+
+module _ (R : Reader) (number : ℕ) {block : List ℕ} (is : block ≡ R .block number) {up : ℕ} (u : up ≡ blockWord block upWord) where
+  up-is : up ≡ upOf R number
+  up-is = u ∙ rw is
+
+  -- the up of a block that lies above it is a block too, unless it is 0
+  pub up-numbered : {s : Settings} → Under s R number → (up ≡ 0 → ⊥) → Numbered s up
+  up-numbered h z = record { low = omega arith; high = omega (arith, up-is, h .below, h .numbered .high) }
+
+  pub lies-under : {s : Settings} → Numbered s number → up < number → Under s R number
+  lies-under h l = record { numbered = h; below = omega (arith, up-is) }
+
+  -- ---- a path block: its up is not below it, or its rows are too many, or the path goes on
+  module _ {s : Settings} {t : ℕ} {rows list : List ℕ} {n : Counts} where
+    pub climb-above : number ≤ up → Climbs s t R rows list n number NotOn rows list
+    climb-above g = above (rw up-is at g)
+
+    module _ (g : up < number) {a : Walked} {rows′ list′ : List ℕ} (told : Told (s .tags) rows list n (blockWalk s t block number) a rows′ list′) where
+      pub climb-full : a ≡ Unsound → Climbs s t R rows list n number NotOn rows′ list′
+      climb-full q = full (rw up-is at g) (rw (is, q) at told)
+
+      pub climb-on : {m : Counts} → a ≡ Done m → {next : ℕ} → next ≡ neighbour R number
+          → Climbs s t R rows list n number (On (record { up = up; next = next; counts = m })) rows′ list′
+      climb-on {m} q {next} e = on {i = record { up = up; next = next; counts = m }} (rw up-is at g) up-is e (rw (is, q) at told)
+
+-- ---- the ways out of a path at block k
+module _ {s : Settings} {t : ℕ} {R : Reader} {k : ℕ} {rows list : List ℕ} {n : Counts} where
+  -- enough fuel is more than none
+  with-fuel : {a : Walked} {rows′ list′ : List ℕ}
+      → ((f : ℕ) → k ≤ f → Told (s .tags) rows list n (path (s .block) t R (suc f) k) a rows′ list′) → PathTold s t R k rows list n a rows′ list′
+  with-fuel {a} {rows′} {list′} g = record { told = go }
+    where
+      go : (f : ℕ) → k < f → Told (s .tags) rows list n (path (s .block) t R f k) a rows′ list′
+      go zero q = absurd (omega arith)
+      go (suc f) q = g f (omega arith)
+
+  -- It is at 0,
+  top-told : k ≡ 0 → n .rows ≤ s .tags → PathTold s t R k rows list n (Done n) rows list
+  unfolding path
+  top-told e g = with-fuel (λ f q. rw (eq-eqb k 0 e) (told-none (s .tags) rows list n g))
+
+  module _ (z : k ≡ 0 → ⊥) where
+    -- or its up is unsound or its rows are too many,
+    stop-told : {rows₁ list₁ : List ℕ} → Climbs s t R rows list n k NotOn rows₁ list₁ → PathTold s t R k rows list n Unsound rows₁ list₁
+    unfolding path
+    stop-told (above g) = with-fuel (λ f q. rw (ne-eqb k 0 z, le-leb k _ g) bad)
+    stop-told (full g x) = with-fuel (λ f q.
+        let v = visit (s .block) t R (suc k) (upOf R k) k (neighbour R k) in
+        rw (ne-eqb k 0 z, lt-leb k _ g) (told-stop (s .tags) rows list n (andThen v (path (s .block) t R f (upOf R k))) x))
+
+    -- or its left neighbour is visited,
+    module _ {i : Step} {a : Walked} {rows₁ list₁ rows₂ list₂ : List ℕ}
+        (visited : VisitTold s t R (i .up) k (i .next) rows₁ list₁ (i .counts) a rows₂ list₂) where
+      -- which stops the path,
+      visit-told : a ≡ Unsound → Climbs s t R rows list n k (On i) rows₁ list₁ → PathTold s t R k rows list n Unsound rows₂ list₂
+      unfolding path
+      visit-told e (on g y w x) = with-fuel (λ f q.
+          rw (ne-eqb k 0 z, lt-leb k _ g)
+          (told-then (s .tags) rows list n x (told-stop (s .tags) rows₁ list₁ (i .counts) _ (rw (y, w, e) at (visited .told (suc k) (omega arith))))))
+
+      -- or the path goes on from the up.
+      next-told : {m : Counts} → a ≡ Done m → Climbs s t R rows list n k (On i) rows₁ list₁ → {r : Walked} {rows₃ list₃ : List ℕ}
+          → PathTold s t R (i .up) rows₂ list₂ m r rows₃ list₃ → PathTold s t R k rows list n r rows₃ list₃
+      unfolding path
+      next-told e (on g y w x) rest = with-fuel (λ f q.
+          rw (ne-eqb k 0 z, lt-leb k _ g)
+          (told-then (s .tags) rows list n x
+          (told-then (s .tags) rows₁ list₁ (i .counts) (rw (y, w, e) at (visited .told (suc k) (omega arith))) (rw y at (rest .told f (omega arith))))))
+
+-- ---- the loop: what tells the path from here tells the whole path
+pub record Onward (s : Settings) (t : ℕ) (R : Reader) (k₀ : ℕ) (rows₀ list₀ : List ℕ) (n₀ : Counts) (k : ℕ) (rows list : List ℕ) (n : Counts)
+    : Type 0 where
+  pub whole : {a : Walked} {rows′ list′ : List ℕ} → PathTold s t R k rows list n a rows′ list′ → PathTold s t R k₀ rows₀ list₀ n₀ a rows′ list′
+
+pub begun : {s : Settings} {t : ℕ} {R : Reader} {k : ℕ} {rows list : List ℕ} {n : Counts} → Onward s t R k rows list n k rows list n
+begun = record { whole = λ c. c }
+
+module _ {s : Settings} {t : ℕ} {R : Reader} {k₀ : ℕ} {rows₀ list₀ : List ℕ} {n₀ : Counts} {k : ℕ} {rows list : List ℕ} {n : Counts}
+    (so-far : Onward s t R k₀ rows₀ list₀ n₀ k rows list n) where
+  -- at 0,
+  pub path-ends : k ≡ 0 → n .rows ≤ s .tags → PathTold s t R k₀ rows₀ list₀ n₀ (Done n) rows list
+  path-ends e g = so-far .whole (top-told e g)
+
+  module _ (z : k ≡ 0 → ⊥) {b : Climbed} {rows₁ list₁ : List ℕ} (climbed : Climbs s t R rows list n k b rows₁ list₁) where
+    -- at a block that is unsound,
+    pub path-stops : b ≡ NotOn → PathTold s t R k₀ rows₀ list₀ n₀ Unsound rows₁ list₁
+    path-stops e = so-far .whole (stop-told z (rw e at climbed))
+
+    module _ {i : Step} (e : b ≡ On i) {a : Walked} {rows₂ list₂ : List ℕ}
+        (visited : VisitTold s t R (i .up) k (i .next) rows₁ list₁ (i .counts) a rows₂ list₂) where
+      -- at a visit that is,
+      pub path-visit-stops : a ≡ Unsound → PathTold s t R k₀ rows₀ list₀ n₀ Unsound rows₂ list₂
+      path-visit-stops q = so-far .whole (visit-told z visited q (rw e at climbed))
+
+      -- or one block up.
+      pub path-turn : {m : Counts} → a ≡ Done m → Onward s t R k₀ rows₀ list₀ n₀ (i .up) rows₂ list₂ m
+      path-turn q = record { whole = λ c. so-far .whole (next-told z visited q (rw e at climbed) c) }
+
+-- ---- room
+module _ {s : Settings} {k : ℕ} {n : Counts} {rows list : List ℕ} (room : Reach s k n rows list) where
+  pub reach-numbered : (k ≡ 0 → ⊥) → Numbered s k
+  reach-numbered z = record { low = omega arith; high = room .known }
+
+  pub reach-space : (k ≡ 0 → ⊥) → Space s n rows list
+  reach-space z = record { buffers = room .buffers; fits = room .fits; block = omega (arith, room .blocks) }
+
+  stepped : {t : ℕ} {R : Reader} {rows₁ list₁ : List ℕ} {i : Step} → Climbs s t R rows list n k (On i) rows₁ list₁
+      → (i .counts .blocks ≡ n .blocks + 1) × (i .counts .rows ≤ s .tags) × (i .up < k)
+  stepped (on g y w x) =
+      let (r, l, e, f) = told-found x in
+      let q : l ≡ k ∷ [] = cc in
+      let p : length l ≡ 1 = rw q in
+      (omega (arith, f .blocks), f .fits, rw (← y) at g)
+
+  module _ {t : ℕ} {R : Reader} {b : Climbed} {i : Step} {rows₁ list₁ : List ℕ} (climbed : Climbs s t R rows list n k b rows₁ list₁) (e : b ≡ On i) where
+    pub up-below : i .up < k
+    up-below = stepped (rw e at climbed) .2
+
+    module _ (same-rows : length rows₁ ≡ length rows) (same-list : length list₁ ≡ length list) where
+      -- for the visit of the left neighbour,
+      pub visit-room : Gap s (i .up) k (i .counts) rows₁ list₁
+      visit-room =
+          let y = stepped (rw e at climbed) in
+          record {
+            buffers = buffers-same (room .buffers) same-rows same-list;
+            fits = y .1;
+            gap = y .2;
+            known = omega (arith, room .known);
+            blocks = omega (arith, room .blocks);
+          }
+
+      -- and for the rest of the path.
+      pub rest-room : {a : Walked} {m : Counts} {rows₂ list₂ : List ℕ} → VisitTold s t R (i .up) k (i .next) rows₁ list₁ (i .counts) a rows₂ list₂
+          → a ≡ Done m → length rows₂ ≡ length rows₁ → length list₂ ≡ length list₁ → Reach s (i .up) m rows₂ list₂
+      rest-room visited q same-rows₂ same-list₂ =
+          let y = stepped (rw e at climbed) in
+          let (r, l, w, g) = told-found (rw q at (visited .told (suc (k - i .up)) (omega arith))) in
+          let z = short-found (visit-short (s .block) t R (suc (k - i .up)) (i .up) k (i .next) (y .2)) w in
+          record {
+            buffers = buffers-same (room .buffers) (same-rows₂ ∙ same-rows) (same-list₂ ∙ same-list);
+            fits = g .fits;
+            known = omega (arith, room .known);
+            blocks = omega (arith, room .blocks, g .blocks);
+          }

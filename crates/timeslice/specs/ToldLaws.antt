@@ -1,0 +1,118 @@
+-- Walks told one after another are told as one walk; a walk that stops, stops the whole. And a block listed, its rows taken, is told.
+use mathlib.Core.Path.{_≡_, refl, sym, _∙_}
+use mathlib.Core.List.{List, [], _∷_, _++_}
+use Prim.Native.Nat.{ℕ, _+_, _≤_, _<_}
+use native.Mathlib.Omega.{arith}
+use lib.ListN.{length, set, length-append}
+use Rattle.layout.specs.declared.settings.Settings.{Settings}
+use Rattle.layout.specs.declared.head.Head.{Head}
+use Rattle.layout.specs.Fields.{closedWord, leftWord, childWord}
+use Rattle.layout.specs.Parts.{blockWord}
+use Rattle.layout.specs.PartsLaws.{BlockPart}
+use Rattle.calls.specs.Calls.{Row}
+use Rattle.calls.specs.Walk.{Walk, unsound, found, andThen}
+use Rattle.calls.specs.Step.{reader}
+use Rattle.timeslice.specs.declared.Counts.{Counts}
+use Rattle.timeslice.specs.declared.rows.Took.{Took}
+use Rattle.timeslice.specs.declared.rows.Took.the-variants.{Rows, TooMany as MoreThan}
+use Rattle.timeslice.specs.declared.walk.Walked.{Walked}
+use Rattle.timeslice.specs.declared.walk.Walked.the-variants.{Done, Unsound}
+use Rattle.timeslice.specs.declared.walk.Entered.the-variants.{Within, Ended, TooMany}
+use Rattle.timeslice.specs.Taken.{Takes, all, many as more}
+use Rattle.timeslice.specs.TakenLaws.{sets-append, rows-append}
+use Rattle.timeslice.specs.Told.{Filled, Told, done, over, bad, blockWalk, Enters, within, ended, many, Readable, Buffers}
+
+-- ---- one walk after another
+module _ (d : ℕ) (rows list : List ℕ) (n : Counts) where
+  filled-then : {r r′ : List Row} {l l′ : List ℕ} {m k : Counts} {rows₁ list₁ rows₂ list₂ : List ℕ} → Filled d rows list n r l m rows₁ list₁
+      → Filled d rows₁ list₁ m r′ l′ k rows₂ list₂ → Filled d rows list n (r ++ r′) (l ++ l′) k rows₂ list₂
+  filled-then {r} {r′} {l} {l′} a b = record {
+    given = simp length-append (omega arith);
+    pages = b .pages ∙ a .pages;
+    blocks = simp length-append (omega arith);
+    fits = b .fits;
+    row-words = b .row-words ∙ rw (a .row-words, a .given) (sym (rows-append rows (n .rows) r r′));
+    list-words = b .list-words ∙ rw (a .list-words, a .blocks) (sym (sets-append list (n .blocks) l l′));
+  }
+
+  pub told-then : {v w : Walk} {m : Counts} {a : Walked} {rows₁ list₁ rows₂ list₂ : List ℕ} → Told d rows list n v (Done m) rows₁ list₁
+      → Told d rows₁ list₁ m w a rows₂ list₂ → Told d rows list n (andThen v w) a rows₂ list₂
+  told-then (done {r = r} {l = l} a) (done {r = r′} {l = l′} {m = k} b) = done {r = r ++ r′} {l = l ++ l′} {m = k} (filled-then a b)
+  told-then (done {r = r} a) (over {r = r′} h) = over {r = r ++ r′} (simp length-append (omega arith))
+  told-then (done a) bad = bad
+
+  pub told-stop : (w : Walk) {v : Walk} {rows₁ list₁ : List ℕ} → Told d rows list n v Unsound rows₁ list₁
+      → Told d rows list n (andThen v w) Unsound rows₁ list₁
+  told-stop unsound (over h) = bad
+  told-stop unsound bad = bad
+  told-stop (found r l) (over {r = r′} h) = over {r = r′ ++ r} (simp length-append (omega arith))
+  told-stop (found r l) bad = bad
+
+  -- nothing found
+  pub told-none : n .rows ≤ d → Told d rows list n (found [] []) (Done n) rows list
+  told-none h =
+      done {r = []} {l = []} {m = n}
+      (record { given = omega arith; pages = refl; blocks = omega arith; fits = h; row-words = refl; list-words = refl })
+
+-- a walk told with counts was found
+pub told-found : {d : ℕ} {rows list rows′ list′ : List ℕ} {n m : Counts} {w : Walk} → Told d rows list n w (Done m) rows′ list′
+    → (r : List Row) × (l : List ℕ) × (w ≡ found r l) × Filled d rows list n r l m rows′ list′
+told-found (done {r = r} {l = l} a) = (r, l, refl, a)
+
+-- ---- a block listed
+-- one block more is counted
+abbrev pub oneMore : ℕ → Counts → Counts
+oneMore given n = record { rows = given; pages = n .pages; blocks = n .blocks + 1 }
+
+module _ {d : ℕ} {rows list : List ℕ} {n : Counts} {number : ℕ} where
+  listed-filled : {r : List Row} {given : ℕ} {rows′ : List ℕ} → Takes d rows (n .rows) r (Rows given) rows′
+      → Told d rows list n (found r (number ∷ [])) (Done (oneMore given n)) rows′ (set list (n .blocks) number)
+  listed-filled {r} (all e h q) =
+      done {r = r} {l = number ∷ []} (record { given = e; pages = refl; blocks = refl; fits = h; row-words = q; list-words = refl })
+
+  listed-over : {r : List Row} {rows′ list′ : List ℕ} → Takes d rows (n .rows) r MoreThan rows′
+      → Told d rows list n (found r (number ∷ [])) Unsound rows′ list′
+  listed-over {r} (more h) = over {r = r} h
+
+  -- its rows taken, or too many,
+  module _ {r : List Row} {x : Took} {rows′ : List ℕ} (taken : Takes d rows (n .rows) r x rows′) where
+    pub listed-all : {given : ℕ} → x ≡ Rows given
+        → Told d rows list n (found r (number ∷ [])) (Done (oneMore given n)) rows′ (set list (n .blocks) number)
+    listed-all e = listed-filled (rw e at taken)
+
+    pub listed-many : {list′ : List ℕ} → x ≡ MoreThan → Told d rows list n (found r (number ∷ [])) Unsound rows′ list′
+    listed-many e = listed-over (rw e at taken)
+
+  -- or alone.
+  pub listed-alone : n .rows ≤ d
+      → Told d rows list n (found [] (number ∷ [])) (Done (oneMore (n .rows) n)) rows (set list (n .blocks) number)
+  listed-alone h = listed-filled (all {now = n .rows} (omega arith) h refl)
+
+-- ---- the block that the code is handed is the reader's
+pub block-is : {ws : List ℕ} {h : Head} {number : ℕ} {block : List ℕ} → Readable ws h → BlockPart (h .settings) ws number block
+    → block ≡ reader ws .block number
+unfolding reader
+block-is r p = p .is ∙ rw (r .is)
+
+-- buffers that a call was lent are as long as before
+pub buffers-same : {s : Settings} {rows list rows₁ list₁ : List ℕ} → Buffers s rows list → length rows₁ ≡ length rows → length list₁ ≡ length list
+    → Buffers s rows₁ list₁
+buffers-same b e f = record { long-rows = omega (arith, b .long-rows); long-list = omega (arith, b .long-list) }
+
+-- ---- a visited block
+module _ {s : Settings} {t : ℕ} {rows list : List ℕ} {n : Counts} {number : ℕ} {block it : List ℕ} (is : block ≡ it) {closed : ℕ}
+    (e : closed ≡ blockWord block closedWord) where
+  -- It closed by t,
+  pub enter-ended : closed ≤ t → n .rows ≤ s .tags
+      → Enters s t it rows list n number (Ended (oneMore (n .rows) n)) rows (set list (n .blocks) number)
+  enter-ended g f = rw (← is) (ended (rw e at g) (listed-alone f))
+
+  -- or closes after t, its rows being taken or too many.
+  module _ (g : t < closed) {a : Walked} {rows′ list′ : List ℕ} (told : Told (s .tags) rows list n (blockWalk s t block number) a rows′ list′) where
+    pub enter-many : a ≡ Unsound → Enters s t it rows list n number TooMany rows′ list′
+    enter-many q = rw (← is) (many (rw e at g) (rw q at told))
+
+    pub enter-within : {m : Counts} → a ≡ Done m → {child left : ℕ} → child ≡ blockWord block childWord → left ≡ blockWord block leftWord
+        → Enters s t it rows list n number (Within (record { child = child; left = left; counts = m })) rows′ list′
+    enter-within {m} q {child} {left} x y =
+        rw (← is) (within {i = record { child = child; left = left; counts = m }} (rw e at g) x y (rw q at told))

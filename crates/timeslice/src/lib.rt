@@ -1,0 +1,141 @@
+// The look-back: what stood at a past second, read from the store's own words (document 01, "The look-back").
+mod index;
+mod rows;
+mod walk;
+
+use index::Searched;
+use layout::head;
+use layout::head::Head;
+use layout::head::HeadAnswer;
+use layout::refusal;
+use walk::Walked;
+ghost use mathlib.Core.Path.{_≡_};
+ghost use Rattle.layout.specs.Settings.{Within};
+ghost use Rattle.layout.specs.HeadLaws.{HeadRead};
+ghost use Rattle.calls.specs.Refusals.{refusal as refusalOf};
+ghost use Rattle.calls.specs.Step.{lookAt, zeros};
+ghost use Rattle.timeslice.specs.Told.{Readable, Buffers};
+ghost use Rattle.timeslice.specs.Answer.{LookedBack, Sees, Answers, ownTests};
+
+// Rows given, pages read and blocks listed.
+pub struct Counts {
+    pub rows: u32,
+    pub pages: u32,
+    pub blocks: u32,
+}
+
+// What an answered look-back says beside its two buffers: the three numbers, and for each level of the index the page passed, OPEN if none.
+pub struct Slice {
+    pub counts: Counts,
+    pub page0: u32,
+    pub page1: u32,
+    pub page2: u32,
+}
+
+pub enum Looked {
+    Answered(Slice),
+    Refused(u32),
+}
+
+// What the walk comes to.
+pub enum Seen {
+    Whole(Slice),
+    Unsound,
+}
+
+// Refusals 4, 5, 7 and 11, in order, for a head that was read; 0 if none applies.
+fn turned_away(words: usize, h: Head, second: u32, rows: usize, list: usize) -> u32
+    requires { ⌜ Within (h .settings) ⌝ }
+    ensures { λ r. ⌜ r ≡ refusalOf (ownTests h words second rows list) ⌝ }
+{
+    if words < h.settings.words() {
+        return refusal::SHORT_STORE;
+    }
+    if second == layout::OPEN {
+        return refusal::TIME_OPEN;
+    }
+    if h.cursor.clock < second {
+        return refusal::LATE;
+    }
+    if rows < layout::ROW_LEN * h.settings.tags as usize {
+        return refusal::BUFFERS;
+    }
+    if list < h.settings.blocks as usize {
+        return refusal::BUFFERS;
+    }
+    0
+}
+
+// Every word of a buffer set to zero.
+fn zero(buffer: &mut [u32])
+    ensures { λ _. ⌜ now (buffer .exit) ≡ zeros (now (buffer .entry)) ⌝ }
+{
+    let mut i = 0;
+    while i < buffer.len() {
+        buffer[i] = 0;
+        i += 1;
+    }
+}
+
+// Search, then the path from the block found.
+fn look(store: &[u32], h: Head, second: u32, rows: &mut [u32], list: &mut [u32]) -> Seen
+    requires { ⌜ Readable (now store) h ⌝ }
+    requires { ⌜ Buffers (h .settings) (now rows) (now list) ⌝ }
+    ensures { λ r. ⌜ Sees (lookAt (now (store .entry)) second) (now (rows .entry)) (now (list .entry)) r (now (rows .exit)) (now (list .exit)) ⌝ }
+{
+    let Searched::At(found) = index::search(store, h, second) else {
+        return Seen::Unsound;
+    };
+    let none = Counts {
+        rows: 0,
+        pages: found.read,
+        blocks: 0,
+    };
+    let Walked::Done(counts) = walk::path(store, h, found.block, second, rows, list, none) else {
+        return Seen::Unsound;
+    };
+    Seen::Whole(Slice {
+        counts,
+        page0: found.page0,
+        page1: found.page1,
+        page2: found.page2,
+    })
+}
+
+// The walk's answer; where it is unsound, refusal 12 fills both buffers with zeros.
+fn answer(store: &[u32], h: Head, second: u32, rows: &mut [u32], list: &mut [u32]) -> Looked
+    requires { ⌜ Readable (now store) h ⌝ }
+    requires { ⌜ Buffers (h .settings) (now rows) (now list) ⌝ }
+    ensures { λ r. ⌜ Answers (now (store .entry)) second (now (rows .entry)) (now (list .entry)) r (now (rows .exit)) (now (list .exit)) ⌝ }
+{
+    match look(store, h, second, rows, list) {
+        Seen::Whole(slice) => Looked::Answered(slice),
+        Seen::Unsound => {
+            zero(rows);
+            zero(list);
+            Looked::Refused(refusal::UNSOUND)
+        }
+    }
+}
+
+// A look-back at a head that was read: refused, or answered by the walk.
+fn with_head(store: &[u32], h: Head, second: u32, rows: &mut [u32], list: &mut [u32]) -> Looked
+    requires { ⌜ HeadRead (now store) h ⌝ }
+    ensures { λ r. ⌜ LookedBack (now (store .entry)) second (now (rows .entry)) (now (list .entry)) r (now (rows .exit)) (now (list .exit)) ⌝ }
+{
+    let n = turned_away(store.len(), h, second, rows.len(), list.len());
+    if n != 0 {
+        return Looked::Refused(n);
+    }
+    answer(store, h, second, rows, list)
+}
+
+// What stood at a second: its rows go into the one buffer, the reading list into the other. Refused for the first reason that applies, on any words.
+pub fn look_back(store: &[u32], second: u32, rows: &mut [u32], list: &mut [u32]) -> Looked
+    ensures { λ r. ⌜ LookedBack (now (store .entry)) second (now (rows .entry)) (now (list .entry)) r (now (rows .exit)) (now (list .exit)) ⌝ }
+{
+    match head::read_head(store) {
+        HeadAnswer::Refused(n) => Looked::Refused(n),
+        HeadAnswer::Read(h) => with_head(store, h, second, rows, list),
+    }
+}
