@@ -1,0 +1,51 @@
+-- `histories::book::last_opened` is safe and ends: nothing has to hold from turn to turn, and the loop counts up to its end.
+-- Assumes nothing.
+use Prim.Native.Nat.{_-_}
+use borrow.Author.Needs.{needs}
+use Rattle.histories.proofs.book.last_opened.Statement.{statement}
+use Rattle.histories.proofs.book.last_opened.Tie as tie
+
+abbrev Inv-loop : tie.InvT-loop
+Inv-loop book t last found₀ i₀ found i = Unit {0}
+
+abbrev μ-loop : tie.MeasureT-loop
+μ-loop book t last found₀ i₀ found i = last - i
+
+blocks-requires : tie.Need-blocks-requires Inv-loop μ-loop
+blocks-requires c κs = search needs
+
+loop-holds : tie.Need-loop-holds Inv-loop μ-loop
+loop-holds c = search needs
+
+sum-requires : tie.Need-sum-requires Inv-loop μ-loop
+sum-requires c κs = search needs
+
+opened-requires : tie.Need-opened-requires Inv-loop μ-loop
+opened-requires c κs = search needs
+
+add-i : tie.Need-add-i Inv-loop μ-loop
+add-i c = search needs
+
+loop-less : tie.Need-loop-less Inv-loop μ-loop
+loop-less c = search needs
+
+loop-again : tie.Need-loop-again Inv-loop μ-loop
+loop-again c = search needs
+
+returns : tie.Need-returns Inv-loop μ-loop
+returns c = search needs
+
+pub last-opened-spec : {M : Type 1} → statement M
+last-opened-spec =
+    tie.close
+    (tie.spec
+    Inv-loop
+    μ-loop
+    blocks-requires
+    loop-holds
+    sum-requires
+    opened-requires
+    add-i
+    loop-less
+    loop-again
+    returns)

@@ -1,0 +1,98 @@
+// THE REGISTER, the public face: the six calls for callers in C and Rust, each proved equal to its definition (calls.specs.Step).
+use changes::Change;
+use timeslice::Looked;
+use timeslice::Slice;
+ghost use mathlib.Core.Path.{_≡_};
+ghost use lib.Seq.{sets};
+ghost use Rattle.calls.specs.Calls.{Start, Set, Clear, Update, Advance, LookBack};
+ghost use Rattle.calls.specs.Step.{step};
+ghost use Rattle.changes.specs.Replied.{answerOf};
+ghost use Rattle.register.specs.Exports.{numberOf, sixWords, Told, ToldBack};
+
+// 0 for an accepted call, else the refusal's number.
+fn number(c: Change) -> u32
+    ensures { λ r. ⌜ r ≡ numberOf (answerOf c) ⌝ }
+{
+    match c {
+        Change::Done(_) => 0,
+        Change::Refused(n) => n,
+    }
+}
+
+#[no_mangle]
+pub extern "C" fn register_start(
+    store: &mut [u32],
+    block: u32,
+    useful: u32,
+    blocks: u32,
+    tags: u32,
+) -> u32
+    ensures { λ r. ⌜ Told (step (now (store .entry)) (Start block useful blocks tags)) r (now (store .exit)) ⌝ }
+{
+    let change = changes::start(store, block, useful, blocks, tags);
+    number(change)
+}
+
+#[no_mangle]
+pub extern "C" fn register_set(store: &mut [u32], second: u32, tag: u32, reading: u32) -> u32
+    ensures { λ r. ⌜ Told (step (now (store .entry)) (Set second tag reading)) r (now (store .exit)) ⌝ }
+{
+    let change = changes::set(store, second, tag, reading);
+    number(change)
+}
+
+#[no_mangle]
+pub extern "C" fn register_clear(store: &mut [u32], second: u32, tag: u32) -> u32
+    ensures { λ r. ⌜ Told (step (now (store .entry)) (Clear second tag)) r (now (store .exit)) ⌝ }
+{
+    let change = changes::clear(store, second, tag);
+    number(change)
+}
+
+#[no_mangle]
+pub extern "C" fn register_update(store: &mut [u32], second: u32, tag: u32, reading: u32) -> u32
+    ensures { λ r. ⌜ Told (step (now (store .entry)) (Update second tag reading)) r (now (store .exit)) ⌝ }
+{
+    let change = changes::update(store, second, tag, reading);
+    number(change)
+}
+
+#[no_mangle]
+pub extern "C" fn register_advance(store: &mut [u32], second: u32) -> u32
+    ensures { λ r. ⌜ Told (step (now (store .entry)) (Advance second)) r (now (store .exit)) ⌝ }
+{
+    let change = changes::advance(store, second);
+    number(change)
+}
+
+// The six words of an answered look-back: rows, pages read, blocks listed, and the page passed on each of the three levels.
+fn put_six(answer: &mut [u32; 6], slice: Slice)
+    ensures { λ _. ⌜ now (answer .exit) ≡ sets (now (answer .entry)) 0 (sixWords slice) ⌝ }
+{
+    answer[0] = slice.counts.rows;
+    answer[1] = slice.counts.pages;
+    answer[2] = slice.counts.blocks;
+    answer[3] = slice.page0;
+    answer[4] = slice.page1;
+    answer[5] = slice.page2;
+}
+
+#[no_mangle]
+pub extern "C" fn register_look_back(
+    store: &[u32],
+    second: u32,
+    rows: &mut [u32],
+    list: &mut [u32],
+    answer: &mut [u32; 6],
+) -> u32
+    ensures { λ r. ⌜ ToldBack (step (now (store .entry)) (LookBack second (now (rows .entry)) (now (list .entry)))) r (now (store .entry)) (now (rows .exit)) (now (list .exit)) (now (answer .entry)) (now (answer .exit)) ⌝ }
+{
+    let looked = timeslice::look_back(store, second, rows, list);
+    match looked {
+        Looked::Refused(n) => n,
+        Looked::Answered(slice) => {
+            put_six(answer, slice);
+            0
+        }
+    }
+}
