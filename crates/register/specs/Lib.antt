@@ -1,2 +1,4 @@
 pub mod Exports
 pub mod ExportLaws
+pub mod Applied
+pub mod AppliedLaws

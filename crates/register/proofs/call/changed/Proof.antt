@@ -1,0 +1,21 @@
+-- `changed` meets its contract: the same answer as one of any call.
+use borrow.Author.Needs.{needs}
+use mathlib.Core.Path.{sym, ap}
+use Rattle.register.specs.Applied.{changeAnswer}
+use Rattle.register.proofs.call.changed.Statement.{statement}
+use Rattle.register.proofs.call.changed.Tie as tie
+
+enum-known-c : tie.Need-enum-known-c
+enum-known-c c = search needs
+
+enum-known-c-2 : tie.Need-enum-known-c-2
+enum-known-c-2 c = search needs
+
+returns : tie.Need-returns
+returns c = sym (ap changeAnswer (c .before .c .given .1))
+
+returns-2 : tie.Need-returns-2
+returns-2 c = sym (ap changeAnswer (c .before .c2 .given .1))
+
+pub changed-spec : {M : Type 1} → statement M
+changed-spec = tie.close (tie.spec enum-known-c enum-known-c-2 returns returns-2)

@@ -1,0 +1,21 @@
+-- `shown` meets its contract: the same answer as one of any call.
+use borrow.Author.Needs.{needs}
+use mathlib.Core.Path.{sym, ap}
+use Rattle.register.specs.Applied.{lookedAnswer}
+use Rattle.register.proofs.call.shown.Statement.{statement}
+use Rattle.register.proofs.call.shown.Tie as tie
+
+enum-known-l : tie.Need-enum-known-l
+enum-known-l c = search needs
+
+enum-known-l-2 : tie.Need-enum-known-l-2
+enum-known-l-2 c = search needs
+
+returns : tie.Need-returns
+returns c = sym (ap lookedAnswer (c .before .l .given .1))
+
+returns-2 : tie.Need-returns-2
+returns-2 c = sym (ap lookedAnswer (c .before .l2 .given .1))
+
+pub shown-spec : {M : Type 1} → statement M
+shown-spec = tie.close (tie.spec enum-known-l enum-known-l-2 returns returns-2)
