@@ -1,5 +1,6 @@
 // THE REGISTER, the public face: the six calls for callers in C and Rust, each proved equal to its definition (calls.specs.Step).
 pub mod call;
+pub mod journal;
 
 use changes::Change;
 use timeslice::Looked;

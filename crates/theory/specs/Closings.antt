@@ -39,7 +39,7 @@ module _ (w : ℕ → ℕ) (x : ℕ) (small : (n : ℕ) → w n ≤ 1) where
 abbrev pub closingIn : Memory → Memory → ℕ → ℕ
 closingIn f g n = is (eqb (f (Field n closedWord)) OPEN && not (eqb (g (Field n closedWord)) OPEN))
 
-is-small : (b : Bool) → is b ≤ 1
+pub is-small : (b : Bool) → is b ≤ 1
 is-small true = omega arith
 is-small false = omega arith
 
