@@ -1,7 +1,2 @@
 pub mod Exports
 pub mod ExportLaws
-pub mod Applied
-pub mod AppliedLaws
-pub mod Journal
-pub mod JournalLaws
-pub mod Rebuilt

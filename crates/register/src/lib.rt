@@ -1,7 +1,10 @@
-// THE REGISTER, the public face: the six calls for callers in C and Rust, each proved equal to its definition (calls.specs.Step).
-pub mod call;
-pub mod journal;
-
+// THE REGISTER, the public face: any call as one value (apply), a store rebuilt from a journal (replay), and the six calls for callers in C and
+// Rust, each proved equal to its definition (calls.specs.Step).
+pub use applying::Answer;
+pub use applying::Call;
+pub use applying::Tally;
+pub use applying::apply;
+pub use applying::replay;
 use changes::Change;
 use timeslice::Looked;
 use timeslice::Slice;

@@ -16,11 +16,11 @@ use Rattle.changes.specs.Replied as replied
 use Rattle.timeslice.specs.declared.Looked.{Looked}
 use Rattle.timeslice.specs.Answer.{LookedBack}
 use Rattle.timeslice.specs.Answer as back
-use Rattle.register.specs.declared.call.Call.{Call}
-use Rattle.register.specs.declared.call.Call.the-variants.{LookBack}
-use Rattle.register.specs.declared.call.Answer.{Answer}
-use Rattle.register.specs.declared.call.Answer.the-variants.{Done, Shown, Refused}
-use Rattle.register.specs.Applied.{answerOf, callOf, bufferAfter, changeAnswer, lookedAnswer, Applied}
+use Rattle.applying.specs.declared.call.Call.{Call}
+use Rattle.applying.specs.declared.call.Call.the-variants.{LookBack}
+use Rattle.applying.specs.declared.call.Answer.{Answer}
+use Rattle.applying.specs.declared.call.Answer.the-variants.{Done, Shown, Refused}
+use Rattle.applying.specs.Applied.{answerOf, callOf, bufferAfter, changeAnswer, lookedAnswer, Applied}
 
 change-answer : (c : Change) → changeAnswer c ≡ answerOf (replied.answerOf c)
 change-answer (change.Done h) = refl

@@ -12,9 +12,9 @@ use Rattle.calls.specs.Step.{step}
 use Rattle.calls.specs.History.{Heard, wordsAfter, trace}
 use Rattle.changes.specs.declared.Change.{Change}
 use Rattle.changes.specs.declared.Change.the-variants as change
-use Rattle.register.specs.declared.journal.Tally.{Tally}
-use Rattle.register.specs.declared.journal.Entered.{Entered}
-use Rattle.register.specs.declared.journal.Entered.the-variants.{Told, Other}
+use Rattle.applying.specs.declared.journal.Tally.{Tally}
+use Rattle.applying.specs.declared.journal.Entered.{Entered}
+use Rattle.applying.specs.declared.journal.Entered.the-variants.{Told, Other}
 
 -- an entry: a change, or none that is known
 pub data Entry : Type 0 where

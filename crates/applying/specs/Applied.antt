@@ -9,10 +9,10 @@ use Rattle.changes.specs.declared.Change.the-variants as change
 use Rattle.timeslice.specs.declared.Looked.{Looked}
 use Rattle.timeslice.specs.declared.Looked.the-variants as looked
 use Rattle.timeslice.specs.Answer.{sliceOf}
-use Rattle.register.specs.declared.call.Call.{Call}
-use Rattle.register.specs.declared.call.Call.the-variants.{Start, Set, Clear, Update, Advance, LookBack}
-use Rattle.register.specs.declared.call.Answer.{Answer}
-use Rattle.register.specs.declared.call.Answer.the-variants.{Done, Shown, Refused}
+use Rattle.applying.specs.declared.call.Call.{Call}
+use Rattle.applying.specs.declared.call.Call.the-variants.{Start, Set, Clear, Update, Advance, LookBack}
+use Rattle.applying.specs.declared.call.Answer.{Answer}
+use Rattle.applying.specs.declared.call.Answer.the-variants.{Done, Shown, Refused}
 
 -- the call of the definitions, a look-back with the buffers that it is lent
 abbrev pub callOf : Call → List ℕ → List ℕ → calls.Call

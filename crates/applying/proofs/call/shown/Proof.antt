@@ -1,9 +1,9 @@
 -- `shown` meets its contract: the same answer as one of any call.
 use borrow.Author.Needs.{needs}
 use mathlib.Core.Path.{sym, ap}
-use Rattle.register.specs.Applied.{lookedAnswer}
-use Rattle.register.proofs.call.shown.Statement.{statement}
-use Rattle.register.proofs.call.shown.Tie as tie
+use Rattle.applying.specs.Applied.{lookedAnswer}
+use Rattle.applying.proofs.call.shown.Statement.{statement}
+use Rattle.applying.proofs.call.shown.Tie as tie
 
 enum-known-l : tie.Need-enum-known-l
 enum-known-l c = search needs

@@ -1,9 +1,9 @@
 -- `changed` meets its contract: the same answer as one of any call.
 use borrow.Author.Needs.{needs}
 use mathlib.Core.Path.{sym, ap}
-use Rattle.register.specs.Applied.{changeAnswer}
-use Rattle.register.proofs.call.changed.Statement.{statement}
-use Rattle.register.proofs.call.changed.Tie as tie
+use Rattle.applying.specs.Applied.{changeAnswer}
+use Rattle.applying.proofs.call.changed.Statement.{statement}
+use Rattle.applying.proofs.call.changed.Tie as tie
 
 enum-known-c : tie.Need-enum-known-c
 enum-known-c c = search needs

@@ -2,9 +2,9 @@
 use borrow.Author.Needs.{needs}
 use mathlib.Core.Path.{refl}
 use Rattle.calls.specs.Calls.{Start, Set, Clear, Update, Advance}
-use Rattle.register.specs.JournalLaws.{entered, passed, of-kind, of-none}
-use Rattle.register.proofs.journal.enter.Statement.{statement}
-use Rattle.register.proofs.journal.enter.Tie as tie
+use Rattle.applying.specs.JournalLaws.{entered, passed, of-kind, of-none}
+use Rattle.applying.proofs.journal.enter.Statement.{statement}
+use Rattle.applying.proofs.journal.enter.Tie as tie
 
 start-requires : tie.Need-start-requires
 start-requires c κs = search needs

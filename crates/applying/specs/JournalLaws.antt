@@ -16,10 +16,10 @@ use Rattle.changes.specs.declared.Change.the-variants as change
 use Rattle.changes.specs.Replied.{Replied, answerOf}
 use Rattle.theory.specs.Closings.{is-small}
 use Rattle.theory.specs.EveryLookBack.{every-call}
-use Rattle.register.specs.declared.journal.Tally.{Tally}
-use Rattle.register.specs.declared.journal.Entered.{Entered}
-use Rattle.register.specs.declared.journal.Entered.the-variants.{Told, Other}
-use Rattle.register.specs.Journal.{Entry, says, nothing, entryOf, entryAt, before, journalOf, acceptedIn, Replayed, enteredBy, entering, afterEntry, Entering}
+use Rattle.applying.specs.declared.journal.Tally.{Tally}
+use Rattle.applying.specs.declared.journal.Entered.{Entered}
+use Rattle.applying.specs.declared.journal.Entered.the-variants.{Told, Other}
+use Rattle.applying.specs.Journal.{Entry, says, nothing, entryOf, entryAt, before, journalOf, acceptedIn, Replayed, enteredBy, entering, afterEntry, Entering}
 
 -- ---- one entry
 entered-answer : (c : Change) → enteredBy c ≡ Told (is (accepted (answerOf c)))

@@ -1,9 +1,9 @@
 -- `apply` meets its contract: each kind of call by its own.
 use borrow.Author.Needs.{needs}
 use mathlib.Core.Path.{refl}
-use Rattle.register.specs.AppliedLaws.{changed-applied, looked-applied}
-use Rattle.register.proofs.call.apply.Statement.{statement}
-use Rattle.register.proofs.call.apply.Tie as tie
+use Rattle.applying.specs.AppliedLaws.{changed-applied, looked-applied}
+use Rattle.applying.proofs.call.apply.Statement.{statement}
+use Rattle.applying.proofs.call.apply.Tie as tie
 
 enum-known-call : tie.Need-enum-known-call
 enum-known-call c = search needs

@@ -4,8 +4,8 @@ use changes::Change;
 ghost use mathlib.Core.Path.{_≡_};
 ghost use Prim.Native.Nat.{_+_, _≤_};
 ghost use lib.ListN.{length};
-ghost use Rattle.register.specs.Journal.{entryOf, entryAt, enteredBy, Entering, Replayed};
-ghost use Rattle.register.specs.Rebuilt.{Rebuilt};
+ghost use Rattle.applying.specs.Journal.{entryOf, entryAt, enteredBy, Entering, Replayed};
+ghost use Rattle.applying.specs.Rebuilt.{Rebuilt};
 
 const ENTRY: usize = 5;
 

@@ -1,0 +1,5 @@
+pub mod Applied
+pub mod AppliedLaws
+pub mod Journal
+pub mod JournalLaws
+pub mod Rebuilt
