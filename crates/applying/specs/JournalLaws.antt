@@ -7,14 +7,13 @@ use native.Mathlib.Omega.{arith}
 use lib.ListN.{length, getD, drop, length-drop}
 use lib.Seq.{drop-cons}
 use borrow.Author.Tests.{ne-eqb}
-use Rattle.base.specs.Sums.{is}
+use Rattle.base.specs.Sums.{is, is-small}
 use Rattle.calls.specs.Calls.{Call, accepted}
 use Rattle.calls.specs.Step.{step}
 use Rattle.calls.specs.History.{wordsAfter, trace}
 use Rattle.changes.specs.declared.Change.{Change}
 use Rattle.changes.specs.declared.Change.the-variants as change
 use Rattle.changes.specs.Replied.{Replied, answerOf}
-use Rattle.theory.specs.Closings.{is-small}
 use Rattle.theory.specs.EveryLookBack.{every-call}
 use Rattle.applying.specs.declared.journal.Tally.{Tally}
 use Rattle.applying.specs.declared.journal.Entered.{Entered}

@@ -91,6 +91,10 @@ abbrev pub is : Bool → ℕ
 is true = 1
 is false = 0
 
+pub is-small : (b : Bool) → is b ≤ 1
+is-small true = omega arith
+is-small false = omega arith
+
 -- How often m stands in a list of numbers.
 abbrev pub occ : ℕ → List ℕ → ℕ
 occ m = total (λ n. is (eqb m n))

@@ -8,28 +8,9 @@ use layout::standing::Standing;
 ghost use mathlib.Core.Path.{_≡_};
 ghost use Prim.Native.Nat.{_+_, _-_, _≤_};
 ghost use Rattle.layout.specs.Address.{Numbered};
-ghost use Rattle.layout.specs.Settings.{Within};
 ghost use Rattle.layout.specs.HeadLaws.{SoundHead};
-ghost use Rattle.calls.specs.Placing.{blockOf, slotOf};
 ghost use Rattle.calls.specs.Refusals.{opens, takenUp, acceptorCloses, bitsOf, remaining, closes, copies, blocksOut};
 ghost use Rattle.decisions.specs.Ready.{wordsOf, Ready};
-
-// The block and the slot of a place.
-pub(crate) fn block_of(s: Settings, p: u32) -> u32
-    requires { ⌜ 1 ≤ p ⌝ }
-    requires { ⌜ Within s ⌝ }
-    ensures { λ r. ⌜ r ≡ blockOf s p ⌝ }
-{
-    (p - 1) / s.block + 1
-}
-
-pub(crate) fn slot_of(s: Settings, p: u32) -> u32
-    requires { ⌜ 1 ≤ p ⌝ }
-    requires { ⌜ Within s ⌝ }
-    ensures { λ r. ⌜ r ≡ slotOf s p ⌝ }
-{
-    (p - 1) % s.block
-}
 
 // The standing bits of block n.
 pub(crate) fn bits_of(store: &[u32], h: Head, n: u32) -> Standing

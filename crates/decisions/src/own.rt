@@ -55,7 +55,7 @@ pub(crate) fn clear_refusal(store: &[u32], h: Head, tag: u32, more: u32) -> u32
     if sound::unsound_clear(store, h, tag, p, more) {
         return refusal::UNSOUND;
     }
-    let n = effect::block_of(h.settings, p);
+    let n = places::block_of(h.settings, p);
     let incoming = effect::incoming(store, h, n, more);
     if effect::blocks_out(h, incoming) {
         return refusal::BLOCKS_OUT;

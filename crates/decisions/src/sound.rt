@@ -24,8 +24,8 @@ fn place_is_bad(store: &[u32], h: Head, tag: u32, p: u32) -> bool
     if h.placed() < p {
         return true;
     }
-    let n = effect::block_of(h.settings, p);
-    let k = effect::slot_of(h.settings, p);
+    let n = places::block_of(h.settings, p);
+    let k = places::slot_of(h.settings, p);
     if address::read(store, h.settings, Address::Slot(n, k, fields::TAG)) != tag {
         return true;
     }
@@ -123,8 +123,8 @@ fn after_clear(store: &[u32], h: Head, tag: u32, p: u32) -> Standing
     ensures { λ r. ⌜ r ≡ afterClear h (wordsOf h (now (store .entry))) tag ⌝ }
 {
     let b = effect::bits_of(store, h, h.cursor.opened);
-    if effect::block_of(h.settings, p) == h.cursor.opened {
-        return b.without(effect::slot_of(h.settings, p));
+    if places::block_of(h.settings, p) == h.cursor.opened {
+        return b.without(places::slot_of(h.settings, p));
     }
     b
 }
@@ -151,7 +151,7 @@ pub(crate) fn unsound_clear(store: &[u32], h: Head, tag: u32, p: u32, more: u32)
     if place_is_bad(store, h, tag, p) {
         return true;
     }
-    let n = effect::block_of(h.settings, p);
+    let n = places::block_of(h.settings, p);
     if closing_is_bad(store, h, n) {
         return true;
     }

@@ -11,4 +11,5 @@ pub mod standing;
 
 pub use sizes::HEAD_LEN;
 pub use sizes::OPEN;
+pub use sizes::PAGE;
 pub use sizes::ROW_LEN;

@@ -1,5 +1,5 @@
 // The numbers of words (specs/Sizes.antt says the same). Nothing outside of this crate names one of them but OPEN, the head's length
-// (a store shorter than a head is refused as such) and a row's.
+// (a store shorter than a head is refused as such), a row's, and how many entries a page has.
 
 // an end not yet known
 pub const OPEN: u32 = 4294967295;
@@ -11,6 +11,9 @@ pub const HEAD_LEN: usize = 16;
 
 // a page is 16 words inside its level
 pub const PAGE_LEN: usize = 16;
+
+// as many entries: a level of the index has the first of each so many of the level below
+pub const PAGE: u32 = 16;
 
 // the first words of a block: seconds, links and standing bits
 pub const BLOCK_HEAD: usize = 8;

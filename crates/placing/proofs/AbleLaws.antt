@@ -18,7 +18,7 @@ use Rattle.layout.specs.Ran.{Ran}
 use Rattle.layout.specs.OnWords.{over, Held}
 use Rattle.layout.specs.Able.{Able, able-held, able-first, able-next, able-passed, able-get, able-set, able-wipe}
 use Rattle.calls.specs.Placing.{openBlock, unlink, endRecord, putRecord}
-use Rattle.placing.specs.Steps.{Spot}
+use Rattle.places.specs.Spot.{Spot}
 
 -- ---- a program that may run does run, and what comes after it may run
 ran-able : {A : Type 0} {s : Settings} {p : Prog A} {ws : List ℕ} → Able s p ws → Ran (over s) p ws ((run (over s) p ws) .0) ((run (over s) p ws) .1)
@@ -55,12 +55,6 @@ module _ {s : Settings} {ws : List ℕ} (c : Cursor) (now tag reading : ℕ) (a 
   pub put-tag : tag < s .tags
   unfolding putRecord
   put-tag = able-set (Dir tag) (able-first (able-rest (able-rest (able-rest (able-rest (able-rest (able-rest a)))))))
-
--- places are few
-pub place-most : {s : Settings} {n k : ℕ} → Spot s n k → (n - 1) * s .block + k + 1 ≤ 262144
-place-most {s} {n} p =
-    let a : n - 1 ≤ 4095 = omega (arith, p .block, p .within) in
-    omega (arith, p .within, mul-le-mul a (p .within .most))
 
 -- ---- blocks
 pub next-block : {s : Settings} {ws : List ℕ} (c : Cursor) (now : ℕ) → Able s (openBlock c now) ws → Numbered s (c .opened + 1)

@@ -1,5 +1,6 @@
 // A block opens, and a block leaves the row of open blocks.
 use layout::OPEN;
+use layout::PAGE;
 use layout::address;
 use layout::address::Address;
 use layout::fields;
@@ -13,9 +14,6 @@ ghost use Rattle.layout.specs.OnWords.{over};
 ghost use Rattle.layout.specs.Standing.{slots};
 ghost use Rattle.calls.specs.Placing.{enterTime, openBlock, unlink, standing};
 ghost use Rattle.placing.specs.Steps.{enterFirst};
-
-// Steps on a page of the index.
-const PAGE: u32 = 16;
 
 // The opening second of block i + 1 goes to a level of the index that has the first time of each `every`, if block i + 1 is such a first.
 fn enter_first(store: &mut [u32], s: Settings, level: u32, every: u32, i: u32, second: u32)

@@ -1,6 +1,5 @@
 // What an accepted change or clock move does to the store: the cursor is moved on, with the clock at the call's second, stored and handed back.
 use crate::moves;
-use crate::places;
 use crate::records;
 use layout::address;
 use layout::address::Address;

@@ -4,5 +4,4 @@
 mod blocks;
 pub mod changes;
 mod moves;
-pub mod places;
 mod records;

@@ -1,5 +1,4 @@
 // A record is placed, ends, and moves to the acceptor.
-use crate::places;
 use layout::OPEN;
 use layout::address;
 use layout::address::Address;

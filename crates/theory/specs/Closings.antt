@@ -6,7 +6,7 @@ use Prim.Native.Nat.{ℕ, zero, suc, _+_, _≤_, _<_}
 use native.Mathlib.Omega.{arith}
 use lib.Dec.{eqb}
 use Rattle.base.specs.Branch.{is?}
-use Rattle.base.specs.Sums.{is, over, over-none}
+use Rattle.base.specs.Sums.{is, is-small, over, over-none}
 use Rattle.layout.specs.declared.settings.Settings.{Settings}
 use Rattle.layout.specs.declared.head.Cursor.{Cursor}
 use Rattle.layout.specs.declared.address.Address.the-variants.{Field}
@@ -38,10 +38,6 @@ module _ (w : ℕ → ℕ) (x : ℕ) (small : (n : ℕ) → w n ≤ 1) where
 -- 1 for a block that is open before and closed after
 abbrev pub closingIn : Memory → Memory → ℕ → ℕ
 closingIn f g n = is (eqb (f (Field n closedWord)) OPEN && not (eqb (g (Field n closedWord)) OPEN))
-
-pub is-small : (b : Bool) → is b ≤ 1
-is-small true = omega arith
-is-small false = omega arith
 
 -- a word that stays is not closed
 pub not-closed : (b : Bool) → is (b && not b) ≡ 0

@@ -14,6 +14,7 @@ use Rattle.layout.specs.Memory.{Memory}
 use Rattle.layout.specs.Program.{Prog, runOn}
 use Rattle.layout.specs.ProgramLaws.{Safe}
 use Rattle.layout.specs.OnWords.{onWords, over}
+use Rattle.layout.specs.OverLaws.{over-safe}
 use Rattle.calls.specs.Placing.{place, clearTag, setProgram, clearProgram, updateProgram, advanceProgram}
 use Rattle.calls.specs.Refusals.{blocksOut}
 use Rattle.theory.specs.RunLaws.{_then_}
@@ -25,11 +26,6 @@ use Rattle.theory.specs.Copies.{headWith, copiesOf, copies-moved, one-le
 use Rattle.theory.specs.SafeParts.{MayOpen}
 use Rattle.theory.specs.SafeLaws.{place-safe, clear-safe, finish-safe}
 use Rattle.theory.specs.Rest.{Rest, cleared, some-block}
-
--- the interpreter that contracts name is that of the words
-pub safe-over : {A : Type 0} (s : Settings) (p : Prog A) (f : Memory) → Safe (onWords s) p f → Safe (over s) p f
-unfolding over
-safe-over s p f h = h
 
 -- room after a clear that hands m records on, for one record more
 able-after : {s : Settings} {x m : ℕ} {S T : Shape} → Within s → Cleared s x m S T → 1 ≤ S .opened → S .opened ≤ s .blocks
@@ -44,14 +40,14 @@ able-after {S = S} {T} z i low limit left = is? (T .opened) (S .opened)
 module _ {s : Settings} {log : Timeline} (c : Cursor) (f : Memory) (i : Rest s log c f) (now : ℕ) where
   pub advance-safe : Safe (over s) (advanceProgram s c now) f
   unfolding advanceProgram
-  advance-safe = safe-over s (advanceProgram s c now) f (finish-safe s now c f)
+  advance-safe = over-safe s (advanceProgram s c now) f (finish-safe s now c f)
 
   module _ (later : c .clock ≤ now) (ends : now < OPEN) (tag : ℕ) (known : tag < s .tags) where
     pub set-safe : (reading : ℕ) → blocksOut (headWith s c) 1 ≡ false → Safe (over s) (setProgram s c now tag reading) f
     unfolding setProgram
     set-safe reading out =
         let y = runOn (place s c now tag reading) f in
-        safe-over s (setProgram s c now tag reading) f (
+        over-safe s (setProgram s c now tag reading) f (
           place-safe s c f now tag reading (i .full) later ends
               (record { limit = i .limit; may = λ w. one-left s c 1 out (i .limit) (omega arith) (λ u. omega (arith, w u)) }) known,
           finish-safe s now (y .0) (y .1),
@@ -72,7 +68,7 @@ module _ {s : Settings} {log : Timeline} (c : Cursor) (f : Memory) (i : Rest s l
       unfolding clearProgram
       clear-call-safe out =
           let y = runOn (clearTag s c now tag) f in
-          safe-over s (clearProgram s c now tag) f
+          over-safe s (clearProgram s c now tag) f
           (tag-safe (λ o. left-for (copiesOf s c f tag + 0) out (omega arith)) then finish-safe s now (y .0) (y .1))
 
       pub update-safe : (reading : ℕ) → blocksOut (headWith s c) (copiesOf s c f tag + 1) ≡ false
@@ -85,7 +81,7 @@ module _ {s : Settings} {log : Timeline} (c : Cursor) (f : Memory) (i : Rest s l
           let r = clear-law c f now tag (i .full) later ends d in
           let low = some-block c f i now later ends tag d in
           let able = able-after (i .full .within) (cleared c f i now later ends tag d) low (i .limit) (left-for m out) in
-          safe-over s (updateProgram s c now tag reading) f
+          over-safe s (updateProgram s c now tag reading) f
           (tag-safe (λ o. left-for m out (omega arith)) then
           place-safe s (y .0) (y .1) now tag reading r (omega arith) ends able known then
           finish-safe s now (z .0) (z .1))

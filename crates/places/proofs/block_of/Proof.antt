@@ -1,9 +1,9 @@
--- `places::block_of` meets its contract: a quotient is no larger than what is divided.
+-- `block_of` meets its contract: a quotient is no larger than what is divided.
 use native.Mathlib.Nat.{div-le-self}
 use native.Mathlib.Omega.{arith}
 use borrow.Author.Needs.{needs}
-use Rattle.placing.proofs.places.block_of.Statement.{statement}
-use Rattle.placing.proofs.places.block_of.Tie as tie
+use Rattle.places.proofs.block_of.Statement.{statement}
+use Rattle.places.proofs.block_of.Tie as tie
 
 earlier-requires : tie.Need-earlier-requires
 earlier-requires c κs = search needs

@@ -1,9 +1,9 @@
--- `places::place_of` meets its contract: a place is a small number.
+-- `place_of` meets its contract: a place is a small number.
 use native.Mathlib.Omega.{arith}
 use borrow.Author.Needs.{needs}
-use Rattle.placing.proofs.AbleLaws.{place-most}
-use Rattle.placing.proofs.places.place_of.Statement.{statement}
-use Rattle.placing.proofs.places.place_of.Tie as tie
+use Rattle.places.specs.Spot.{place-most}
+use Rattle.places.proofs.place_of.Statement.{statement}
+use Rattle.places.proofs.place_of.Tie as tie
 
 sub-result : tie.Need-sub-result
 sub-result c = search needs

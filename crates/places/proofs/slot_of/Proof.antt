@@ -1,7 +1,7 @@
--- `places::slot_of` meets its contract.
+-- `slot_of` meets its contract.
 use borrow.Author.Needs.{needs}
-use Rattle.placing.proofs.places.slot_of.Statement.{statement}
-use Rattle.placing.proofs.places.slot_of.Tie as tie
+use Rattle.places.proofs.slot_of.Statement.{statement}
+use Rattle.places.proofs.slot_of.Tie as tie
 
 earlier-requires : tie.Need-earlier-requires
 earlier-requires c κs = search needs
