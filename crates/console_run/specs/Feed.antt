@@ -1,0 +1,87 @@
+-- THE CONSOLE BYTE BY BYTE, as a program runs it: each byte is fed, a complete line is taken, and at the end come the last line and a missing one.
+use mathlib.Core.Bool.{Bool, true, false, cond}
+use mathlib.Core.List.{List, [], _∷_, _++_}
+use Prim.Native.Nat.{ℕ, _+_}
+use lib.Dec.{ltb}
+use Rattle.console_text.specs.declared.gather.Fed.{Fed}
+use Rattle.console_text.specs.declared.gather.Fed.the-variants.{More, LineEnd}
+use Rattle.console_text.specs.Lines.{newLine, leftOver, fedAnswer, fedLine, lineText}
+use Rattle.console_run.specs.declared.turn.Stage.{Stage}
+use Rattle.console_run.specs.declared.turn.Stage.the-variants.{SettingsNames, Settings, ChangeNames, Changes, Over}
+use Rattle.console_run.specs.declared.turn.Said.the-variants.{Nothing}
+use Rattle.console_run.specs.declared.feed.Console.{Console}
+use Rattle.console_run.specs.declared.feed.Step.{Step}
+use Rattle.console_run.specs.Console.{Lent, lent, lineDoes, saidBytes, missing}
+
+-- A step, with the line's buffer and the lent words after it.
+pub record Stepped : Type 0 where
+  pub step : Step
+  pub line : List ℕ
+  pub lent : Lent
+
+abbrev pub stepped : Step → List ℕ → List ℕ → List ℕ → List ℕ → Stepped
+stepped step line store rows list = record { step = step; line = line; lent = lent store rows list }
+
+-- Before the first byte.
+unfoldable pub begun : Console
+begun = record { stage = SettingsNames; gather = newLine; number = 1 }
+
+-- 64 bits hold the count of every input's lines.
+unfoldable pub nextNumber : ℕ → ℕ
+nextNumber number = cond (ltb number 18446744073709551615) (number + 1) number
+
+-- No line is complete.
+abbrev pub quiet : Console → List ℕ → Lent → Stepped
+quiet c line words = record { step = record { console = c; said = Nothing; number = c .number }; line = line; lent = words }
+
+-- The line that was gathered is complete.
+unfoldable pub taken : Console → List ℕ → Lent → Stepped
+taken c line words =
+    let d = lineDoes (c .stage) (lineText (c .gather) line) words in
+    record {
+      step = record {
+        console = record { stage = d .turn .next; gather = newLine; number = nextNumber (c .number) };
+        said = d .turn .said;
+        number = c .number;
+      };
+      line = line;
+      lent = d .lent;
+    }
+
+-- What a byte does: the line goes on, or it is complete.
+unfoldable pub fedBy : Fed → Console → List ℕ → Lent → Stepped
+fedBy (More longer) c line words = quiet (record { stage = c .stage; gather = longer; number = c .number }) line words
+fedBy LineEnd c line words = taken c line words
+
+unfoldable pub fed : Console → List ℕ → Lent → ℕ → Stepped
+fed c line words x = fedBy (fedAnswer (c .gather) x) c (fedLine (c .gather) line x) words
+
+-- At the end of the input: the last line, if there is one that lacks its newline.
+unfoldable pub lastTaken : Console → List ℕ → Lent → Stepped
+lastTaken c line words = cond (leftOver (c .gather)) (taken c line words) (quiet c line words)
+
+-- ---- a program's loop
+
+abbrev pub isOver : Stage → Bool
+isOver SettingsNames = false
+isOver Settings = false
+isOver ChangeNames = false
+isOver Changes = false
+isOver Over = true
+
+-- What a step prints.
+abbrev pub stepBytes : Stepped → List ℕ
+stepBytes s = saidBytes (s .step .said) (s .step .number) (s .lent .rows)
+
+-- At the end: the last line, then a missing one.
+unfoldable pub finish : Console → List ℕ → Lent → List ℕ
+finish c line words =
+    let s = lastTaken c line words in
+    stepBytes s ++ saidBytes (missing (s .step .console .stage)) (s .step .console .number) (s .lent .rows)
+
+-- What is printed by a program that feeds the bytes in order until the run is over, prints what each step says, and then finishes.
+unfoldable pub driven : Console → List ℕ → Lent → List ℕ → List ℕ
+driven c line words [] = finish c line words
+driven c line words (x ∷ more) =
+    let s = fed c line words x in
+    cond (isOver (c .stage)) (finish c line words) (stepBytes s ++ driven (s .step .console) (s .line) (s .lent) more)

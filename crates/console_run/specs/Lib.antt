@@ -1,0 +1,5 @@
+pub mod Console
+pub mod Feed
+pub mod TurnLaws
+pub mod PrintLaws
+pub mod FeedLaws

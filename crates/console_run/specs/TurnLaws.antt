@@ -1,0 +1,129 @@
+-- A line's turn put together from what the functions it calls ensure.
+use mathlib.Core.Path.{_≡_, refl, _∙_}
+use mathlib.Core.Bool.{Bool, true, false, cond}
+use mathlib.Core.List.{List, [], _∷_}
+use Prim.Native.Nat.{ℕ, min}
+use native.Mathlib.Omega.{arith}
+use lib.Dec.{eqb}
+use lib.ListN.{length, take}
+use lib.Seq.{take-all}
+use borrow.Author.Tests.{eqb-true}
+use Rattle.base.specs.Branch.{by-test, and-true, and-is, eqb-same, lt?}
+use Rattle.applying.specs.declared.call.Call.{Call}
+use Rattle.applying.specs.declared.call.Call.the-variants as call
+use Rattle.applying.specs.declared.call.Answer.{Answer}
+use Rattle.applying.specs.Applied.{Applied}
+use Rattle.console_text.specs.declared.gather.Gather.{Gather}
+use Rattle.console_text.specs.declared.parse.SettingsLine.{SettingsLine}
+use Rattle.console_text.specs.declared.parse.SettingsLine.the-variants as settings
+use Rattle.console_text.specs.declared.parse.Line.{Line}
+use Rattle.console_text.specs.Input.{settingsNames, settingsLine, changeNames, changeLine}
+use Rattle.console_text.specs.Lines.{lineText}
+use Rattle.console_run.specs.declared.turn.Stage.{Stage}
+use Rattle.console_run.specs.declared.turn.Stage.the-variants.{SettingsNames, Settings, ChangeNames, Changes, Over}
+use Rattle.console_run.specs.declared.turn.Asked.{Asked}
+use Rattle.console_run.specs.declared.turn.Asked.the-variants as asked
+use Rattle.console_run.specs.declared.turn.Turn.{Turn}
+use Rattle.console_run.specs.declared.turn.Said.the-variants.{Nothing}
+use Rattle.console_run.specs.Console.{Lent, lent, Does, does, only, says, badAt, sameBytes, namesDo, answered, called, settingsDo, askedOf, changeDo, textDoes, lineDoes}
+
+-- ---- names lines
+
+-- A test is not true and false at once.
+pub truth : {b : Bool} → b ≡ true → b ≡ false → ⊥
+truth e f = let z : _≡_ {A = ℕ} 0 1 = cc in omega arith
+
+same-bytes : (l : List ℕ) → sameBytes l l ≡ true
+unfolding sameBytes
+same-bytes [] = refl
+same-bytes (x ∷ l) = and-is (eqb-same x) (same-bytes l)
+
+bytes-same : (l m : List ℕ) → sameBytes l m ≡ true → l ≡ m
+unfolding sameBytes
+bytes-same [] [] e = refl
+bytes-same [] (y ∷ m) e = let z : _≡_ {A = ℕ} 0 1 = cc in absurd (omega arith)
+bytes-same (x ∷ l) [] e = let z : _≡_ {A = ℕ} 0 1 = cc in absurd (omega arith)
+bytes-same (x ∷ l) (y ∷ m) e =
+    let p = and-true (eqb x y) (sameBytes l m) e in
+    rw (eqb-true x y (p .0), bytes-same l m (p .1))
+
+pub names-stand : (stage next : Stage) (names text : List ℕ) → text ≡ names → says next Nothing ≡ namesDo stage next names text
+unfolding namesDo
+names-stand stage next names text e = rw (e, same-bytes names)
+
+pub names-bad : (stage next : Stage) (names text : List ℕ) → (text ≡ names → ⊥) → badAt stage ≡ namesDo stage next names text
+unfolding namesDo
+names-bad stage next names text n =
+    by-test (sameBytes text names) (λ t. badAt stage ≡ cond t (says next Nothing) (badAt stage)) (λ e. absurd (n (bytes-same text names e))) (λ e. refl)
+
+-- ---- a call
+pub called-is : {store rows list store′ rows′ list′ : List ℕ} {call : Call} {a : Answer} (done refused : Stage) (time : ℕ) {t : Turn}
+    → Applied store call rows list a store′ rows′ list′ → t ≡ answered done refused time a
+    → does t store′ rows′ list′ ≡ called done refused time call (lent store rows list)
+unfolding called
+called-is done refused time p e = rw (e, p .answer, p .store, p .row-words, p .list-words)
+
+-- ---- the settings, as they were read
+module _ {read line : SettingsLine} (words : Lent) (e : read ≡ line) where
+  pub settings-values : {b q blocks tags : ℕ} {d : Does} → read ≡ settings.Values b q blocks tags
+      → d ≡ called ChangeNames Over 0 (call.Start b q blocks tags) words → d ≡ settingsDo line words
+  unfolding settingsDo
+  settings-values f g = g ∙ rw (← e, f)
+
+  pub settings-bad : {t : Turn} → read ≡ settings.Bad → t ≡ badAt Settings → only t words ≡ settingsDo line words
+  unfolding settingsDo
+  settings-bad f g = rw (g, ← e, f)
+
+-- ---- what a change line asks for
+module _ {read : Asked} {line parsed : Line} (words : Lent) (e : read ≡ askedOf parsed) (l : parsed ≡ line) where
+  pub change-called : {time : ℕ} {call : Call} {d : Does} → read ≡ asked.Call time call
+      → d ≡ called Changes Changes time call words → d ≡ changeDo (askedOf line) words
+  unfolding changeDo
+  change-called f g = g ∙ rw (← l, ← e, f)
+
+  pub change-bad : {t : Turn} → read ≡ asked.Bad → t ≡ badAt Changes → only t words ≡ changeDo (askedOf line) words
+  unfolding changeDo
+  change-bad f g = rw (g, ← l, ← e, f)
+
+-- ---- a line by its stage
+module _ {stage : Stage} (text : List ℕ) (words : Lent) where
+  pub at-settings-names : {t : Turn} → stage ≡ SettingsNames → t ≡ namesDo SettingsNames Settings settingsNames text → only t words ≡ textDoes stage text words
+  unfolding textDoes
+  at-settings-names e f = rw (e, f)
+
+  pub at-settings : {d : Does} → stage ≡ Settings → d ≡ settingsDo (settingsLine text) words → d ≡ textDoes stage text words
+  unfolding textDoes
+  at-settings e f = rw (e, f)
+
+  pub at-change-names : {t : Turn} → stage ≡ ChangeNames → t ≡ namesDo ChangeNames Changes changeNames text → only t words ≡ textDoes stage text words
+  unfolding textDoes
+  at-change-names e f = rw (e, f)
+
+  pub at-changes : {d : Does} → stage ≡ Changes → d ≡ changeDo (askedOf (changeLine text)) words → d ≡ textDoes stage text words
+  unfolding textDoes
+  at-changes e f = rw (e, f)
+
+  pub at-over : {t : Turn} → stage ≡ Over → t ≡ badAt Over → only t words ≡ textDoes stage text words
+  unfolding textDoes
+  at-over e f = rw (e, f)
+
+-- ---- a line as it was gathered
+
+-- No more of a list can be taken than there is.
+take-min : (n : ℕ) (l : List ℕ) {m : ℕ} → m ≡ min n (length l) → take m l ≡ take n l
+take-min n l e = lt? n (length l)
+    (λ a. let f : min n (length l) ≡ n = omega arith in rw (e, f))
+    (λ a. let f : min n (length l) ≡ length l = omega arith in rw (e, f, take-all (length l) l (omega arith), take-all n l a))
+
+pub start-does : (stage : Stage) (n : ℕ) (l : List ℕ) (words : Lent) {m : ℕ} {d : Does} → m ≡ min n (length l)
+    → d ≡ textDoes stage (take m l) words → d ≡ textDoes stage (take n l) words
+start-does stage n l words e f = f ∙ rw (take-min n l e)
+
+module _ (stage : Stage) (g : Gather) (line : List ℕ) (words : Lent) where
+  pub long-does : {t : Turn} → g .long ≡ true → t ≡ badAt stage → only t words ≡ lineDoes stage (lineText g line) words
+  unfolding lineText lineDoes
+  long-does e f = rw (e, f)
+
+  pub whole-does : {d : Does} → g .long ≡ false → d ≡ textDoes stage (take (g .len) line) words → d ≡ lineDoes stage (lineText g line) words
+  unfolding lineText lineDoes
+  whole-does e f = f ∙ rw e
