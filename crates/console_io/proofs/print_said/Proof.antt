@@ -1,0 +1,46 @@
+-- `print_said` is safe and ends: the lines are counted.
+use Prim.Native.Nat.{_-_}
+use borrow.Author.Needs.{needs}
+use Rattle.console_io.proofs.print_said.Statement.{statement}
+use Rattle.console_io.proofs.print_said.Tie as tie
+
+abbrev Inv-loop : tie.InvT-loop
+Inv-loop said number rows count next₀ i₀ next i = Unit {0}
+
+abbrev μ-loop : tie.MeasureT-loop
+μ-loop said number rows count next₀ i₀ next i = count - i
+
+line-count-requires : tie.Need-line-count-requires Inv-loop μ-loop
+line-count-requires c κs = search needs
+
+loop-holds : tie.Need-loop-holds Inv-loop μ-loop
+loop-holds c = search needs
+
+print-one-requires : tie.Need-print-one-requires Inv-loop μ-loop
+print-one-requires c κs = search needs
+
+add-i : tie.Need-add-i Inv-loop μ-loop
+add-i c = search needs
+
+loop-less : tie.Need-loop-less Inv-loop μ-loop
+loop-less c = search needs
+
+loop-again : tie.Need-loop-again Inv-loop μ-loop
+loop-again c = search needs
+
+returns : tie.Need-returns Inv-loop μ-loop
+returns c = search needs
+
+pub print-said-spec : {M : Type 1} → statement M
+print-said-spec =
+    tie.close
+    (tie.spec
+    Inv-loop
+    μ-loop
+    line-count-requires
+    loop-holds
+    print-one-requires
+    add-i
+    loop-less
+    loop-again
+    returns)

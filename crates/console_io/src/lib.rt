@@ -1,0 +1,175 @@
+// THE CONSOLE OVER DESCRIPTORS: input is read in chunks and fed byte by byte, and each output line is written, or compared with an expected one. What
+// is read and written no contract can say; what is fed, taken and printed is console_run's, and the loop here is `driven` of its specs/Feed.antt.
+pub mod sink;
+
+use console_run::feed::Console;
+use console_run::print;
+use console_run::turn::Said;
+use console_run::turn::Stage;
+use sink::Sink;
+
+// The store, and buffers that are large enough for every settings.
+const STORE: usize = 16000;
+
+const ROWS: usize = 8192;
+
+const LIST: usize = 4096;
+
+// A run so far; `open` while more input is awaited.
+struct Session {
+    console: Console,
+    sink: Sink,
+    open: bool,
+}
+
+// The i-th line of what is said.
+fn print_one(sink: Sink, said: Said, number: u64, rows: &[u32], i: u64) -> Sink {
+    let mut out = [0u8; 64];
+    let n = print::put_line(&mut out, said, number, rows, i);
+    sink::emit(sink, &out[..n])
+}
+
+// Every line of what is said.
+fn print_said(sink: Sink, said: Said, number: u64, rows: &[u32]) -> Sink {
+    let count = print::line_count(said);
+    let mut next = sink;
+    let mut i: u64 = 0;
+    while i < count {
+        next = print_one(next, said, number, rows, i);
+        i += 1;
+    }
+    next
+}
+
+fn print_names(sink: Sink) -> Sink {
+    let mut out = [0u8; 64];
+    let n = console_text::print::put_names(&mut out);
+    sink::emit(sink, &out[..n])
+}
+
+// Nothing is read once the run is over.
+fn awaits(stage: Stage) -> bool {
+    match stage {
+        Stage::Over => false,
+        _ => true,
+    }
+}
+
+fn feed_one(
+    session: Session,
+    byte: u8,
+    line: &mut [u8; 80],
+    store: &mut [u32; STORE],
+    rows: &mut [u32; ROWS],
+    list: &mut [u32; LIST],
+) -> Session {
+    let console = session.console;
+    let sink = session.sink;
+    let step = console.feed(byte, line, store, rows, list);
+    let said = step.said;
+    let next = step.console;
+    let stage = next.stage;
+    Session {
+        console: next,
+        sink: print_said(sink, said, step.number, rows),
+        open: awaits(stage),
+    }
+}
+
+fn feed_all(
+    session: Session,
+    bytes: &[u8],
+    line: &mut [u8; 80],
+    store: &mut [u32; STORE],
+    rows: &mut [u32; ROWS],
+    list: &mut [u32; LIST],
+) -> Session {
+    let mut next = session;
+    let mut i = 0;
+    while i < bytes.len() {
+        if !next.open {
+            return next;
+        }
+        next = feed_one(next, bytes[i], line, store, rows, list);
+        i += 1;
+    }
+    next
+}
+
+// One read: a part of the input, or its end.
+fn read_some(
+    session: Session,
+    input: i32,
+    line: &mut [u8; 80],
+    store: &mut [u32; STORE],
+    rows: &mut [u32; ROWS],
+    list: &mut [u32; LIST],
+) -> Session {
+    let mut chunk = io::buffer();
+    let got = libc::read(input, &mut chunk);
+    if got <= 0 {
+        let console = session.console;
+        let sink = session.sink;
+        return Session {
+            console,
+            sink,
+            open: false,
+        };
+    }
+    let n = io::count(got, &chunk);
+    feed_all(session, &chunk[..n], line, store, rows, list)
+}
+
+// The whole input. Nothing says that an input ends, so the reads are counted down from a number that no input uses up.
+fn read_all(
+    session: Session,
+    input: i32,
+    line: &mut [u8; 80],
+    store: &mut [u32; STORE],
+    rows: &mut [u32; ROWS],
+    list: &mut [u32; LIST],
+) -> Session {
+    let mut next = session;
+    let mut reads: u64 = 18446744073709551615;
+    while 0 < reads {
+        if !next.open {
+            return next;
+        }
+        next = read_some(next, input, line, store, rows, list);
+        reads -= 1;
+    }
+    next
+}
+
+// The last line, which may lack its newline; then a line that is missing.
+fn finish(
+    session: Session,
+    line: &[u8; 80],
+    store: &mut [u32; STORE],
+    rows: &mut [u32; ROWS],
+    list: &mut [u32; LIST],
+) -> Sink {
+    let console = session.console;
+    let sink = session.sink;
+    let step = console.last(line, store, rows, list);
+    let said = step.said;
+    let next = step.console;
+    let stage = next.stage;
+    let printed = print_said(sink, said, step.number, rows);
+    print_said(printed, print::at_end(stage), next.number, rows)
+}
+
+// The console's run over all that the descriptor `input` gives.
+pub fn run(input: i32, sink: Sink) -> Sink {
+    let mut line = [0u8; 80];
+    let mut store = [0u32; STORE];
+    let mut rows = [0u32; ROWS];
+    let mut list = [0u32; LIST];
+    let begun = Session {
+        console: Console::new(),
+        sink: print_names(sink),
+        open: true,
+    };
+    let read = read_all(begun, input, &mut line, &mut store, &mut rows, &mut list);
+    finish(read, &line, &mut store, &mut rows, &mut list)
+}

@@ -1,0 +1,74 @@
+// Where output lines go.
+use console_run::feed::next_number;
+
+pub enum Sink {
+    // written to a descriptor
+    Write(i32),
+    // compared with what a descriptor gives: so many lines were equal
+    Compare(i32, u64),
+    // this line, counted from 1, was not as expected
+    Differs(u64),
+}
+
+// The next byte that a descriptor gives.
+pub enum Next {
+    Byte(u8),
+    End,
+}
+
+pub fn next_byte(fd: i32) -> Next {
+    let mut next = [0u8; 1];
+    if libc::read(fd, &mut next) < 1 {
+        return Next::End;
+    }
+    Next::Byte(next[0])
+}
+
+fn gives(fd: i32, byte: u8) -> bool {
+    match next_byte(fd) {
+        Next::Byte(next) => next == byte,
+        Next::End => false,
+    }
+}
+
+fn gives_all(fd: i32, bytes: &[u8]) -> bool {
+    let mut i = 0;
+    while i < bytes.len() {
+        if !gives(fd, bytes[i]) {
+            return false;
+        }
+        i += 1;
+    }
+    true
+}
+
+// At the end of a compared run: the first line, counted from 1, that differs, be it one that was expected and did not come; 0 if none does.
+pub fn first_difference(sink: Sink) -> u64 {
+    match sink {
+        Sink::Write(_) => 0,
+        Sink::Compare(fd, equal) => match next_byte(fd) {
+            Next::Byte(_) => next_number(equal),
+            Next::End => 0,
+        },
+        Sink::Differs(lines) => lines,
+    }
+}
+
+// One line goes out.
+pub(crate) fn emit(sink: Sink, line: &[u8]) -> Sink {
+    match sink {
+        Sink::Write(fd) => {
+            io::write_all(fd, line);
+            Sink::Write(fd)
+        }
+        Sink::Compare(fd, equal) => {
+            let lines = next_number(equal);
+            if gives_all(fd, line) {
+                Sink::Compare(fd, lines)
+            } else {
+                Sink::Differs(lines)
+            }
+        }
+        Sink::Differs(lines) => Sink::Differs(lines),
+    }
+}
