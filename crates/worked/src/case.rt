@@ -1,0 +1,75 @@
+// One worked case: NAME.in through the console, against NAME.out.
+use console_io::sink;
+use console_io::sink::Sink;
+use libc::STDOUT_FILENO;
+
+// A name with its ending fits a line of `cases`.
+const NAME_MOST: usize = 76;
+
+fn put(line: &mut [u8; 80], at: usize, byte: u8) {
+    if at < 80 {
+        line[at] = byte;
+    }
+}
+
+// The file that the first `len` bytes name.
+fn open_start(line: &[u8], len: usize) -> i32 {
+    if line.len() < len {
+        return -1;
+    }
+    os::open_read(&line[..len])
+}
+
+fn open_in(line: &mut [u8; 80], len: usize) -> i32 {
+    if NAME_MOST < len {
+        return -1;
+    }
+    put(line, len, b'.');
+    put(line, len + 1, b'i');
+    put(line, len + 2, b'n');
+    open_start(line, len + 3)
+}
+
+fn open_out(line: &mut [u8; 80], len: usize) -> i32 {
+    if NAME_MOST < len {
+        return -1;
+    }
+    put(line, len, b'.');
+    put(line, len + 1, b'o');
+    put(line, len + 2, b'u');
+    put(line, len + 3, b't');
+    open_start(line, len + 4)
+}
+
+// The name, and what is said of it.
+fn tell(line: &[u8], len: usize, what: &[u8]) {
+    if line.len() < len {
+        return;
+    }
+    io::write_all(STDOUT_FILENO, &line[..len]);
+    io::write_all(STDOUT_FILENO, what);
+}
+
+// Whether the case that the first `len` bytes of a line of `cases` name agrees; if not, it says so.
+pub(crate) fn agrees(line: &mut [u8; 80], len: usize) -> bool {
+    let input = open_in(line, len);
+    if input < 0 {
+        tell(line, len, b": its .in file is missing\n");
+        return false;
+    }
+    let expected = open_out(line, len);
+    if expected < 0 {
+        tell(line, len, b": its .out file is missing\n");
+        return false;
+    }
+    let difference = sink::first_difference(console_io::run(input, Sink::Compare(expected, 0)));
+    libc::close(input);
+    libc::close(expected);
+    if difference == 0 {
+        return true;
+    }
+    tell(line, len, b": the output differs at line ");
+    io::print_decimal(STDOUT_FILENO, difference);
+    io::write_all(STDOUT_FILENO, b"\n");
+    false
+}

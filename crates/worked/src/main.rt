@@ -1,0 +1,91 @@
+// THE WORKED CASES (data/README.md): the file `cases` names each case on a line of its own. The console's run over NAME.in must print NAME.out, byte
+// for byte. A case that does not agree is told with the first output line that differs.
+mod case;
+
+use console_io::sink;
+use console_io::sink::Next;
+use console_run::feed::next_number;
+use console_text::gather::Fed;
+use console_text::gather::Gather;
+use libc::STDOUT_FILENO;
+
+// The line of `cases` that is being read, and how many cases were run and how many did not agree.
+struct Tally {
+    gather: Gather,
+    cases: u64,
+    failed: u64,
+}
+
+// The line is complete: a case, unless it is empty.
+fn named(tally: Tally, line: &mut [u8; 80]) -> Tally {
+    let gather = tally.gather;
+    let fresh = Gather::new();
+    if gather.len == 0 {
+        return Tally {
+            gather: fresh,
+            cases: tally.cases,
+            failed: tally.failed,
+        };
+    }
+    let cases = next_number(tally.cases);
+    if case::agrees(line, gather.len) {
+        return Tally {
+            gather: fresh,
+            cases,
+            failed: tally.failed,
+        };
+    }
+    Tally {
+        gather: fresh,
+        cases,
+        failed: next_number(tally.failed),
+    }
+}
+
+fn read_byte(tally: Tally, byte: u8, line: &mut [u8; 80]) -> Tally {
+    let gather = tally.gather;
+    match gather.feed(line, byte) {
+        Fed::More(longer) => Tally {
+            gather: longer,
+            cases: tally.cases,
+            failed: tally.failed,
+        },
+        Fed::LineEnd => named(tally, line),
+    }
+}
+
+// Every line of `cases`. Nothing says that a file ends, so the bytes are counted down from a number that no file uses up.
+fn read_cases(list: i32, line: &mut [u8; 80]) -> Tally {
+    let gather = Gather::new();
+    let mut tally = Tally {
+        gather,
+        cases: 0,
+        failed: 0,
+    };
+    let mut bytes: u64 = 18446744073709551615;
+    while 0 < bytes {
+        let Next::Byte(byte) = sink::next_byte(list) else {
+            return named(tally, line);
+        };
+        tally = read_byte(tally, byte, line);
+        bytes -= 1;
+    }
+    tally
+}
+
+fn main() {
+    let list = os::open_read(b"cases");
+    if list < 0 {
+        io::write_all(STDOUT_FILENO, b"the file cases is missing\n");
+        return;
+    }
+    let mut line = [0u8; 80];
+    let tally = read_cases(list, &mut line);
+    if tally.cases == 0 {
+        io::write_all(STDOUT_FILENO, b"the file cases names no case\n");
+        return;
+    }
+    if tally.failed == 0 {
+        io::write_all(STDOUT_FILENO, b"every worked case agrees\n");
+    }
+}
