@@ -1,0 +1,33 @@
+//! The contenders of the benchmark, behind one face. Each takes the same changes and answers the same look-backs.
+pub mod copies;
+pub mod log;
+pub mod sqlite;
+pub mod store;
+
+use crate::input::Change;
+
+/// Tag and reading.
+pub type Row = (u32, i32);
+
+pub trait Contender {
+    fn name(&self) -> &'static str;
+    /// An empty history; not timed.
+    fn restart(&mut self);
+    /// How many of the changes it is given; the rest would take it too much memory.
+    fn most_changes(&self) -> usize {
+        usize::MAX
+    }
+    fn change_all(&mut self, changes: &[Change]);
+    /// Looks back at each second and counts the rows.
+    fn look_all(&mut self, seconds: &[u32]) -> u64;
+    /// The rows of the last look-back.
+    fn rows(&self) -> &[Row];
+    /// Bytes that hold the history so far.
+    fn bytes(&mut self) -> usize;
+    /// Words read by the last look-back, where that can be counted.
+    fn words_read(&self) -> Option<usize>;
+    /// Blocks listed by the last look-back, and blocks open then.
+    fn blocks(&self, _second: u32) -> Option<(usize, usize)> {
+        None
+    }
+}
