@@ -96,36 +96,60 @@ fn show(store: &[u32; WORDS]) {
     block(store, 3);
 }
 
+fn set(store: &mut [u32; WORDS], second: u32, tag: u32, reading: u32) {
+    tell(changes::set(store, second, tag, reading));
+}
+
+fn clear(store: &mut [u32; WORDS], second: u32, tag: u32) {
+    tell(changes::clear(store, second, tag));
+}
+
+fn update(store: &mut [u32; WORDS], second: u32, tag: u32, reading: u32) {
+    tell(changes::update(store, second, tag, reading));
+}
+
+fn advance(store: &mut [u32; WORDS], second: u32) {
+    tell(changes::advance(store, second));
+}
+
+fn start(store: &mut [u32; WORDS], block: u32, blocks: u32) {
+    tell(changes::start(store, block, 2, blocks, 16));
+}
+
 fn printed_changes(store: &mut [u32; WORDS]) {
-    tell(changes::set(store, 1, 1, 25));
-    tell(changes::set(store, 2, 2, 4294967271));
-    tell(changes::set(store, 3, 3, 5));
-    tell(changes::set(store, 4, 4, 140));
-    tell(changes::set(store, 5, 5, 0));
-    tell(changes::clear(store, 6, 2));
-    tell(changes::clear(store, 7, 3));
-    tell(changes::clear(store, 8, 1));
+    set(store, 1, 1, 25);
+    set(store, 2, 2, 4294967271);
+    set(store, 3, 3, 5);
+    set(store, 4, 4, 140);
+    set(store, 5, 5, 0);
+    clear(store, 6, 2);
+    clear(store, 7, 3);
+    clear(store, 8, 1);
     show(store);
 }
 
-// P9, P10 and P11 follow the printed changes, as do the refusals that need some state.
+// P9, P10 and P11 follow the printed changes.
 fn edges(store: &mut [u32; WORDS]) {
     io::write_all(1, b"P9\n");
-    tell(changes::set(store, 8, 6, 1));
+    set(store, 8, 6, 1);
     io::write_all(1, b"P10\n");
-    tell(changes::set(store, 7, 7, 1));
+    set(store, 7, 7, 1);
     io::write_all(1, b"P11\n");
-    tell(changes::set(store, 8, 15, 1));
-    tell(changes::set(store, 8, 16, 1));
+    set(store, 8, 15, 1);
+    set(store, 8, 16, 1);
+}
+
+// The refusals that need some state.
+fn refusals(store: &mut [u32; WORDS]) {
     io::write_all(1, b"refusals\n");
-    tell(changes::advance(store, layout::OPEN));
-    tell(changes::advance(store, 7));
-    tell(changes::set(store, 9, 4, 1));
-    tell(changes::clear(store, 9, 2));
-    tell(changes::update(store, 9, 2, 1));
+    advance(store, layout::OPEN);
+    advance(store, 7);
+    set(store, 9, 4, 1);
+    clear(store, 9, 2);
+    update(store, 9, 2, 1);
     io::write_all(1, b"new reading, clock\n");
-    tell(changes::update(store, 9, 4, 4294967295));
-    tell(changes::advance(store, 12));
+    update(store, 9, 4, 4294967295);
+    advance(store, 12);
     show(store);
 }
 
@@ -133,33 +157,33 @@ fn edges(store: &mut [u32; WORDS]) {
 fn damaged(store: &mut [u32; WORDS]) {
     io::write_all(1, b"damaged\n");
     store[4389] = 99;
-    tell(changes::clear(store, 13, 5));
-    tell(changes::update(store, 13, 5, 1));
+    clear(store, 13, 5);
+    update(store, 13, 5, 1);
     store[0] = 7000;
-    tell(changes::advance(store, 13));
+    advance(store, 13);
     show(store);
 }
 
 // With one block the fifth set would open another.
 fn out_of_blocks(store: &mut [u32; WORDS]) {
     io::write_all(1, b"out of blocks\n");
-    tell(changes::start(store, 4, 2, 1, 16));
-    tell(changes::set(store, 1, 0, 10));
-    tell(changes::set(store, 1, 1, 11));
-    tell(changes::set(store, 1, 2, 12));
-    tell(changes::set(store, 1, 3, 13));
-    tell(changes::set(store, 1, 4, 14));
-    tell(changes::update(store, 1, 3, 7));
+    start(store, 4, 1);
+    set(store, 1, 0, 10);
+    set(store, 1, 1, 11);
+    set(store, 1, 2, 12);
+    set(store, 1, 3, 13);
+    set(store, 1, 4, 14);
+    update(store, 1, 3, 7);
     show(store);
 }
 
 // P8 and P12.
 fn starts(store: &mut [u32; WORDS]) {
     io::write_all(1, b"P8\n");
-    tell(changes::start(store, 4, 2, 8, 16));
-    tell(changes::start(store, 3, 2, 8, 16));
+    start(store, 4, 8);
+    start(store, 3, 8);
     io::write_all(1, b"P12\n");
-    tell(changes::start(store, 4, 2, 8, 16));
+    start(store, 4, 8);
     let mut short = [9u32; 4591];
     tell(changes::start(&mut short, 4, 2, 8, 16));
 }
@@ -192,6 +216,7 @@ fn main() {
     io::write_all(1, b"printed changes\n");
     printed_changes(&mut store);
     edges(&mut store);
+    refusals(&mut store);
     damaged(&mut store);
     out_of_blocks(&mut store);
 }
