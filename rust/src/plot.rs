@@ -8,9 +8,9 @@ const COLOURS: [&str; 5] = ["#1b6ca8", "#7fb7de", "#c27c0e", "#7a8b2f", "#8c4a6d
 /// A picture of the year with this b: bars on the left, growth on the right.
 pub fn svg(setting: &Setting, growth: &[Growth]) -> String {
     let mut text = String::from(
-        "<svg xmlns='http://www.w3.org/2000/svg' width='980' height='400' font-family='sans-serif' font-size='12'>\n",
+        "<svg xmlns='http://www.w3.org/2000/svg' width='1000' height='400' font-family='sans-serif' font-size='12'>\n",
     );
-    text.push_str("<rect width='980' height='400' fill='white'/>\n");
+    text.push_str("<rect width='1000' height='400' fill='white'/>\n");
     bars(setting, &mut text);
     lines(setting.block, growth, &mut text);
     text.push_str("</svg>\n");
@@ -55,7 +55,7 @@ fn label(x: f64, y: f64, anchor: &str, words: &str, text: &mut String) {
 
 fn bars(setting: &Setting, text: &mut String) {
     let fastest = setting.figures.iter().flat_map(|f| f.looks.iter().map(|look| look.per_s)).fold(1.0, f64::max);
-    let frame = Frame { left: 80.0, width: 380.0, low: 1.0, high: fastest.log10().ceil() };
+    let frame = Frame { left: 100.0, width: 380.0, low: 1.0, high: fastest.log10().ceil() };
     frame.draw(&format!("Look-backs per second, {}, b = {}", setting.work, setting.block), text);
     let group = frame.width / AGES.len() as f64;
     let bar = group * 0.8 / setting.figures.len() as f64;
@@ -82,7 +82,7 @@ fn bars(setting: &Setting, text: &mut String) {
 }
 
 fn lines(block: u32, growth: &[Growth], text: &mut String) {
-    let frame = Frame { left: 590.0, width: 340.0, low: 1.0, high: 7.0 };
+    let frame = Frame { left: 610.0, width: 340.0, low: 1.0, high: 7.0 };
     frame.draw(&format!("Nanoseconds by history length, year, b = {block}"), text);
     let x = |i: usize| frame.left + frame.width * (i as f64 + 0.5) / growth.len() as f64;
     for (i, at) in growth.iter().enumerate() {
@@ -99,6 +99,7 @@ fn lines(block: u32, growth: &[Growth], text: &mut String) {
             values.iter().enumerate().map(|(i, &v)| format!("{:.1},{:.1}", x(i), frame.y(v))).collect();
         let _ =
             writeln!(text, "<polyline points='{}' fill='none' stroke='{colour}' stroke-width='2'/>", points.join(" "));
-        label(x(0), frame.y(values[0]) - 8.0, "start", name, text);
+        let last = values.len() - 1;
+        label(x(last), frame.y(values[last]) - 10.0, "end", name, text);
     }
 }
