@@ -1,5 +1,6 @@
-// THE CONSOLE OVER DESCRIPTORS: input is read in chunks and fed byte by byte, and each output line is written, or compared with an expected one. What
-// is read and written no contract can say; what is fed, taken and printed is console_run's, and the loop here is `driven` of its specs/Feed.antt.
+// THE CONSOLE OVER DESCRIPTORS: input is read in chunks and fed byte by byte, and each output line is written, or compared with an expected one.
+// The state follows `fedAll` of console_run's specs/Feed.antt. What is read and written no contract can say: that each step's lines go out, as in
+// `driven` there, is read off feed_one and finish.
 pub mod sink;
 
 use console_run::feed::Console;
@@ -7,6 +8,9 @@ use console_run::print;
 use console_run::turn::Said;
 use console_run::turn::Stage;
 use sink::Sink;
+ghost use mathlib.Core.Path.{_≡_};
+ghost use Rattle.console_run.specs.Feed.{isOver, state, fedAll};
+ghost use Rattle.console_run.specs.FeedLaws.{afterByte};
 
 // The store, and buffers that are large enough for every settings.
 const STORE: usize = 16000;
@@ -15,11 +19,16 @@ const ROWS: usize = 8192;
 
 const LIST: usize = 4096;
 
-// A run so far; `open` while more input is awaited.
+// A run so far.
 struct Session {
     console: Console,
     sink: Sink,
-    open: bool,
+}
+
+// One read: a part of the input was fed, or there is none left.
+enum Part {
+    Fed(Session),
+    End,
 }
 
 // The i-th line of what is said.
@@ -47,11 +56,15 @@ fn print_names(sink: Sink) -> Sink {
     sink::emit(sink, &out[..n])
 }
 
-// Nothing is read once the run is over.
-fn awaits(stage: Stage) -> bool {
+fn is_over(stage: Stage) -> bool
+    ensures { λ r. ⌜ r ≡ isOver stage ⌝ }
+{
     match stage {
-        Stage::Over => false,
-        _ => true,
+        Stage::SettingsNames => false,
+        Stage::Settings => false,
+        Stage::ChangeNames => false,
+        Stage::Changes => false,
+        Stage::Over => true,
     }
 }
 
@@ -62,20 +75,21 @@ fn feed_one(
     store: &mut [u32; STORE],
     rows: &mut [u32; ROWS],
     list: &mut [u32; LIST],
-) -> Session {
+) -> Session
+    ensures { λ r. ⌜ state (r .console) (now (line .exit)) (now (store .exit)) (now (rows .exit)) (now (list .exit)) ≡ afterByte (state (session .console) (now (line .entry)) (now (store .entry)) (now (rows .entry)) (now (list .entry))) byte ⌝ }
+{
     let console = session.console;
     let sink = session.sink;
     let step = console.feed(byte, line, store, rows, list);
     let said = step.said;
     let next = step.console;
-    let stage = next.stage;
     Session {
         console: next,
         sink: print_said(sink, said, step.number, rows),
-        open: awaits(stage),
     }
 }
 
+// Every byte of a part of the input, until the run is over.
 fn feed_all(
     session: Session,
     bytes: &[u8],
@@ -83,11 +97,15 @@ fn feed_all(
     store: &mut [u32; STORE],
     rows: &mut [u32; ROWS],
     list: &mut [u32; LIST],
-) -> Session {
+) -> Session
+    ensures { λ r. ⌜ state (r .console) (now (line .exit)) (now (store .exit)) (now (rows .exit)) (now (list .exit)) ≡ fedAll (state (session .console) (now (line .entry)) (now (store .entry)) (now (rows .entry)) (now (list .entry))) (now (bytes .entry)) ⌝ }
+{
     let mut next = session;
     let mut i = 0;
     while i < bytes.len() {
-        if !next.open {
+        let console = next.console;
+        let stage = console.stage;
+        if is_over(stage) {
             return next;
         }
         next = feed_one(next, bytes[i], line, store, rows, list);
@@ -96,7 +114,6 @@ fn feed_all(
     next
 }
 
-// One read: a part of the input, or its end.
 fn read_some(
     session: Session,
     input: i32,
@@ -104,20 +121,14 @@ fn read_some(
     store: &mut [u32; STORE],
     rows: &mut [u32; ROWS],
     list: &mut [u32; LIST],
-) -> Session {
+) -> Part {
     let mut chunk = io::buffer();
     let got = libc::read(input, &mut chunk);
     if got <= 0 {
-        let console = session.console;
-        let sink = session.sink;
-        return Session {
-            console,
-            sink,
-            open: false,
-        };
+        return Part::End;
     }
     let n = io::count(got, &chunk);
-    feed_all(session, &chunk[..n], line, store, rows, list)
+    Part::Fed(feed_all(session, &chunk[..n], line, store, rows, list))
 }
 
 // The whole input. Nothing says that an input ends, so the reads are counted down from a number that no input uses up.
@@ -132,10 +143,15 @@ fn read_all(
     let mut next = session;
     let mut reads: u64 = 18446744073709551615;
     while 0 < reads {
-        if !next.open {
+        let console = next.console;
+        let stage = console.stage;
+        if is_over(stage) {
             return next;
         }
-        next = read_some(next, input, line, store, rows, list);
+        let Part::Fed(more) = read_some(next, input, line, store, rows, list) else {
+            return next;
+        };
+        next = more;
         reads -= 1;
     }
     next
@@ -168,7 +184,6 @@ pub fn run(input: i32, sink: Sink) -> Sink {
     let begun = Session {
         console: Console::new(),
         sink: print_names(sink),
-        open: true,
     };
     let read = read_all(begun, input, &mut line, &mut store, &mut rows, &mut list);
     finish(read, &line, &mut store, &mut rows, &mut list)

@@ -69,6 +69,22 @@ isOver ChangeNames = false
 isOver Changes = false
 isOver Over = true
 
+-- The console between two bytes, with the line's buffer and the lent words.
+pub record State : Type 0 where
+  pub console : Console
+  pub line : List ℕ
+  pub lent : Lent
+
+abbrev pub state : Console → List ℕ → List ℕ → List ℕ → List ℕ → State
+state c line store rows list = record { console = c; line = line; lent = lent store rows list }
+
+-- After these bytes. None is fed once the run is over.
+unfoldable pub fedAll : State → List ℕ → State
+fedAll s [] = s
+fedAll s (x ∷ more) =
+    let f = fed (s .console) (s .line) (s .lent) x in
+    cond (isOver (s .console .stage)) s (fedAll (record { console = f .step .console; line = f .line; lent = f .lent }) more)
+
 -- What a step prints.
 abbrev pub stepBytes : Stepped → List ℕ
 stepBytes s = saidBytes (s .step .said) (s .step .number) (s .lent .rows)
