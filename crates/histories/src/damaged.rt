@@ -30,6 +30,9 @@ const ROUNDS: u32 = 3;
 
 const CALLS: u32 = 10;
 
+// No kind of change.
+const LOOK_BACK: u32 = 9;
+
 // A change can be answered 0, 2 to 6, 8, 12, 13, and 9 or 10 by its kind; a clock move 0 or 2 to 6.
 fn change_may(kind: u32, got: u32) -> bool {
     if got == 0 {
@@ -194,6 +197,17 @@ fn damaged_look_back(
     );
 }
 
+// The kind of a round's i-th call.
+fn kind_of(i: u32) -> u32 {
+    match i {
+        1 | 8 => SET,
+        3 | 6 => CLEAR,
+        4 => UPDATE,
+        7 => ADVANCE,
+        _ => LOOK_BACK,
+    }
+}
+
 // Call i of a round: each kind, look-backs and clears oftener.
 fn damaged_call(
     i: u32,
@@ -205,15 +219,12 @@ fn damaged_call(
     tally: &mut [u32; WORDS],
     random: &mut [u64; 1],
 ) {
-    match i {
-        1 => damaged_change(SET, store, kept, log, tally, random),
-        3 => damaged_change(CLEAR, store, kept, log, tally, random),
-        4 => damaged_change(UPDATE, store, kept, log, tally, random),
-        6 => damaged_change(CLEAR, store, kept, log, tally, random),
-        7 => damaged_change(ADVANCE, store, kept, log, tally, random),
-        8 => damaged_change(SET, store, kept, log, tally, random),
-        _ => damaged_look_back(store, kept, log, rows, list, tally, random),
+    let kind = kind_of(i);
+    if kind == LOOK_BACK {
+        damaged_look_back(store, kept, log, rows, list, tally, random);
+        return;
     }
+    damaged_change(kind, store, kept, log, tally, random);
 }
 
 fn damaged_calls(

@@ -3,6 +3,7 @@ use crate::book::SET;
 use crate::log;
 use crate::random::below;
 use crate::random::once_in;
+use crate::random::word;
 use crate::settings;
 use crate::settings::Settings;
 use crate::words::OPEN;
@@ -159,4 +160,51 @@ pub fn draw_settings(log: &[u32; WORDS], random: &mut [u64; 1]) -> Settings {
         return bad;
     }
     settings::listed(below(random, settings::LISTED))
+}
+
+// A change as it is drawn, its kind aside, with the words that are lent.
+pub struct Change {
+    pub length: u32,
+    pub second: u32,
+    pub tag: u32,
+    pub reading: u32,
+}
+
+pub fn draw_change(
+    kind: u32,
+    log: &[u32; WORDS],
+    state: &mut [u32; WORDS],
+    random: &mut [u64; 1],
+) -> Change {
+    let length = draw_length(log, random);
+    let second = draw_second(log, random);
+    let tag = draw_tag(kind, log, state, random);
+    let reading = word(random);
+    Change {
+        length,
+        second,
+        tag,
+        reading,
+    }
+}
+
+// A look-back as it is drawn, with the words that are lent.
+pub struct LookBack {
+    pub length: u32,
+    pub second: u32,
+    pub row_words: u32,
+    pub list_words: u32,
+}
+
+pub fn draw_look_back(log: &[u32; WORDS], random: &mut [u64; 1]) -> LookBack {
+    let length = draw_length(log, random);
+    let second = draw_past(log, random);
+    let row_words = draw_row_words(get(log, log::TAGS), random);
+    let list_words = draw_list_words(get(log, log::BLOCKS), random);
+    LookBack {
+        length,
+        second,
+        row_words,
+        list_words,
+    }
 }

@@ -34,6 +34,29 @@ fn change_kind(r: u32) -> u32 {
     ADVANCE
 }
 
+// The call is counted, and a number below 200 is drawn for its kind; 200 once the history has stopped.
+fn begin_call(tally: &mut [u32; WORDS], random: &mut [u64; 1]) -> u32 {
+    if get(tally, report::STOPPED) == 1 {
+        return 200;
+    }
+    add(tally, report::CALL, 1);
+    below(random, 200)
+}
+
+// Another start.
+fn restart_turn(
+    store: &mut [u32; WORDS],
+    kept: &mut [u32; WORDS],
+    book: &mut [u32; WORDS],
+    log: &mut [u32; WORDS],
+    tally: &mut [u32; WORDS],
+    random: &mut [u64; 1],
+) {
+    let s = draw::draw_settings(log, random);
+    let length = draw::draw_length(log, random);
+    turns::start_turn(s, length, store, kept, book, log, tally);
+}
+
 // One call.
 fn turn(
     store: &mut [u32; WORDS],
@@ -47,32 +70,19 @@ fn turn(
     tally: &mut [u32; WORDS],
     random: &mut [u64; 1],
 ) {
-    if get(tally, report::STOPPED) == 1 {
-        return;
-    }
-    add(tally, report::CALL, 1);
-    let r = below(random, 200);
+    let r = begin_call(tally, random);
     if r < 155 {
-        turns::change_turn(
-            change_kind(r),
-            store,
-            kept,
-            book,
-            log,
-            state,
-            spare,
-            tally,
-            random,
-        );
+        let kind = change_kind(r);
+        turns::change_turn(kind, store, kept, book, log, state, spare, tally, random);
         return;
     }
     if r < 199 {
         turns::look_back_turn(store, book, log, state, rows, list, tally, random);
         return;
     }
-    let s = draw::draw_settings(log, random);
-    let length = draw::draw_length(log, random);
-    turns::start_turn(s, length, store, kept, book, log, tally);
+    if r < 200 {
+        restart_turn(store, kept, book, log, tally, random);
+    }
 }
 
 fn calls_made(
@@ -126,10 +136,8 @@ fn prepare(
     words::copy(kept, store, turns::extent(log));
 }
 
-// A whole history with its first settings: a few calls on an unstarted store in one of six, a start, then the calls.
-pub fn play(
-    s: Settings,
-    calls: u32,
+// A few calls on an unstarted store, in one history of six.
+fn unstarted(
     store: &mut [u32; WORDS],
     kept: &mut [u32; WORDS],
     book: &mut [u32; WORDS],
@@ -141,7 +149,6 @@ pub fn play(
     tally: &mut [u32; WORDS],
     random: &mut [u64; 1],
 ) {
-    prepare(s, store, kept, book, log, random);
     if once_in(random, 6) {
         calls_made(
             3,
@@ -157,6 +164,36 @@ pub fn play(
             random,
         );
     }
+}
+
+// A whole history with its first settings: some on an unstarted store, a start, then the calls.
+pub fn play(
+    s: Settings,
+    calls: u32,
+    store: &mut [u32; WORDS],
+    kept: &mut [u32; WORDS],
+    book: &mut [u32; WORDS],
+    log: &mut [u32; WORDS],
+    state: &mut [u32; WORDS],
+    spare: &mut [u32; WORDS],
+    rows: &mut [u32; WORDS],
+    list: &mut [u32; WORDS],
+    tally: &mut [u32; WORDS],
+    random: &mut [u64; 1],
+) {
+    prepare(s, store, kept, book, log, random);
+    unstarted(
+        store,
+        kept,
+        book,
+        log,
+        state,
+        spare,
+        rows,
+        list,
+        tally,
+        random,
+    );
     let length = get(log, log::LENGTH);
     turns::start_turn(s, length, store, kept, book, log, tally);
     calls_made(

@@ -3,10 +3,11 @@ use crate::agree;
 use crate::book;
 use crate::calls;
 use crate::draw;
+use crate::draw::Change;
+use crate::draw::LookBack;
 use crate::due;
 use crate::log;
 use crate::looked;
-use crate::random::word;
 use crate::report;
 use crate::settings;
 use crate::settings::Settings;
@@ -73,6 +74,25 @@ fn changed(
     report::note(tally, agree::store_agrees(store, book, log));
 }
 
+// What follows a change's answer.
+fn settle(
+    got: u32,
+    kind: u32,
+    c: Change,
+    store: &[u32; WORDS],
+    kept: &mut [u32; WORDS],
+    book: &mut [u32; WORDS],
+    log: &mut [u32; WORDS],
+    tally: &mut [u32; WORDS],
+) {
+    if got != 0 {
+        refused(store, kept, log, tally);
+        return;
+    }
+    changed(kind, c.second, c.tag, c.reading, store, book, log, tally);
+    accepted(store, kept, log, tally);
+}
+
 // A set, clear, new reading or clock move.
 pub fn change_turn(
     kind: u32,
@@ -85,19 +105,11 @@ pub fn change_turn(
     tally: &mut [u32; WORDS],
     random: &mut [u64; 1],
 ) {
-    let length = draw::draw_length(log, random);
-    let second = draw::draw_second(log, random);
-    let tag = draw::draw_tag(kind, log, state, random);
-    let reading = word(random);
-    let due = due::due_change(kind, second, tag, length, log, state, book, trial);
-    let got = calls::change(store, length, kind, second, tag, reading);
+    let c = draw::draw_change(kind, log, state, random);
+    let due = due::due_change(kind, c.second, c.tag, c.length, log, state, book, trial);
+    let got = calls::change(store, c.length, kind, c.second, c.tag, c.reading);
     report::answered(tally, due, got);
-    if got == 0 {
-        changed(kind, second, tag, reading, store, book, log, tally);
-        accepted(store, kept, log, tally);
-    } else {
-        refused(store, kept, log, tally);
-    }
+    settle(got, kind, c, store, kept, book, log, tally);
 }
 
 // The answer of a look-back, by log and book.
@@ -126,6 +138,39 @@ fn looked_at(
     add(tally, report::LISTED, answer[2]);
 }
 
+// What follows a look-back's answer: refused, it leaves the buffers and the six words.
+fn settle_look_back(
+    got: u32,
+    a: LookBack,
+    rows: &[u32; WORDS],
+    list: &[u32; WORDS],
+    answer: &[u32; 6],
+    book: &[u32; WORDS],
+    log: &[u32; WORDS],
+    state: &mut [u32; WORDS],
+    tally: &mut [u32; WORDS],
+) {
+    if got != 0 {
+        report::note(
+            tally,
+            looked::untouched(rows, a.row_words, list, a.list_words, answer),
+        );
+        return;
+    }
+    looked_at(
+        a.second,
+        rows,
+        a.row_words,
+        list,
+        a.list_words,
+        answer,
+        book,
+        log,
+        state,
+        tally,
+    );
+}
+
 pub fn look_back_turn(
     store: &[u32; WORDS],
     book: &[u32; WORDS],
@@ -136,44 +181,23 @@ pub fn look_back_turn(
     tally: &mut [u32; WORDS],
     random: &mut [u64; 1],
 ) {
-    let length = draw::draw_length(log, random);
-    let second = draw::draw_past(log, random);
-    let row_words = draw::draw_row_words(get(log, log::TAGS), random);
-    let list_words = draw::draw_list_words(get(log, log::BLOCKS), random);
-    words::fill_marks(rows, 0, sum(row_words, looked::SPARE));
-    words::fill_marks(list, 0, sum(list_words, looked::SPARE));
+    let a = draw::draw_look_back(log, random);
+    words::fill_marks(rows, 0, sum(a.row_words, looked::SPARE));
+    words::fill_marks(list, 0, sum(a.list_words, looked::SPARE));
     let mut answer = [77u32; 6];
-    let due = due::due_look_back(second, row_words, list_words, length, log);
+    let due = due::due_look_back(a.second, a.row_words, a.list_words, a.length, log);
     let got = calls::look_back(
         store,
-        length,
-        second,
+        a.length,
+        a.second,
         rows,
-        row_words,
+        a.row_words,
         list,
-        list_words,
+        a.list_words,
         &mut answer,
     );
     report::answered(tally, due, got);
-    if got == 0 {
-        looked_at(
-            second,
-            rows,
-            row_words,
-            list,
-            list_words,
-            &answer,
-            book,
-            log,
-            state,
-            tally,
-        );
-    } else {
-        report::note(
-            tally,
-            looked::untouched(rows, row_words, list, list_words, &answer),
-        );
-    }
+    settle_look_back(got, a, rows, list, &answer, book, log, state, tally);
 }
 
 // An accepted start begins log and book anew, and leaves zeros after the settings.
