@@ -85,7 +85,7 @@ rows-grow t block i (suc b) h = lt? b i
     (λ l. let e : i ≡ suc b = omega arith in rw e (omega arith))
     (λ l. simp length-append (omega (arith, rows-grow t block i b l)))
 
-still-many : (d : ℕ) (buffer : List ℕ) (given : ℕ) {r r′ : List Row} {after : List ℕ}
+pub still-many : (d : ℕ) (buffer : List ℕ) (given : ℕ) {r r′ : List Row} {after : List ℕ}
     → length r ≤ length r′ → Takes d buffer given r TooMany after → Takes d buffer given r′ TooMany after
 still-many d buffer given h (many k) = many (omega arith)
 

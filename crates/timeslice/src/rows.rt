@@ -28,8 +28,10 @@ fn take_row(block: &[u32], k: u32, t: u32, s: Settings, rows: &mut [u32], given:
         return Took::TooMany;
     }
     let at = layout::ROW_LEN * given as usize;
-    rows[at] = parts::slot_word(block, k, fields::TAG);
-    rows[at + 1] = parts::slot_word(block, k, fields::READING);
+    let tag = parts::slot_word(block, k, fields::TAG);
+    let reading = parts::slot_word(block, k, fields::READING);
+    rows[at] = tag;
+    rows[at + 1] = reading;
     Took::Rows(given + 1)
 }
 

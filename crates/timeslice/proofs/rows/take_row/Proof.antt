@@ -16,21 +16,10 @@ slot-word-requires-2 : tie.Need-slot-word-requires-2
 slot-word-requires-2 c κs = search needs
 
 returns-2 : tie.Need-returns-2
-returns-2 c =
-    let at-if1 = c .before .before in
-    let at-slot-word = at-if1 .before in
-    let start = at-slot-word .before .before .before in
-    ended _ _ _ _ _ _ (at-slot-word .slot-word .ensures) (at-if1 .if1 .left) (c .before .slot-word2 .ensures) (c .if2 .taken)
-    (start .pre .1 .fits)
+returns-2 c = ended _ _ _ _ _ _ (c .before .before .before .slot-word .ensures) (c .before .before .if1 .left) (c .before .slot-word2 .ensures) (c .if2 .taken) (c .before .before .before .before .before .before .pre .1 .fits)
 
 returns-3 : tie.Need-returns-3
-returns-3 c =
-    let at-if2 = c .before .before in
-    let at-slot-word2 = at-if2 .before in
-    let at-if1 = at-slot-word2 .before in
-    let at-slot-word = at-if1 .before in
-    no-room _ _ _ _ _ _ (at-slot-word .slot-word .ensures) (at-if1 .if1 .left) (at-slot-word2 .slot-word2 .ensures)
-    (at-if2 .if2 .left) (c .if3 .taken)
+returns-3 c = no-room _ _ _ _ _ _ (c .before .before .before .before .before .slot-word .ensures) (c .before .before .before .before .if1 .left) (c .before .before .before .slot-word2 .ensures) (c .before .before .if2 .left) (c .if3 .taken)
 
 mul-at : tie.Need-mul-at
 mul-at c = search needs
@@ -38,14 +27,14 @@ mul-at c = search needs
 slot-word-requires-3 : tie.Need-slot-word-requires-3
 slot-word-requires-3 c κs = search needs
 
+slot-word-requires-4 : tie.Need-slot-word-requires-4
+slot-word-requires-4 c κs = search needs
+
 mul-rows : tie.Need-mul-rows
 mul-rows c = search needs
 
 slice-write-rows : tie.Need-slice-write-rows
 slice-write-rows c = search needs
-
-slot-word-requires-4 : tie.Need-slot-word-requires-4
-slot-word-requires-4 c κs = search needs
 
 add-rows : tie.Need-add-rows
 add-rows c = search needs
@@ -56,21 +45,15 @@ mul-rows-2 c = search needs
 slice-write-rows-2 : tie.Need-slice-write-rows-2
 slice-write-rows-2 c = simp length-set (omega arith)
 
-add-t8 : tie.Need-add-t8
-add-t8 c = search needs
+add-t10 : tie.Need-add-t10
+add-t10 c = search needs
 
 same-length : tie.Need-same-length
 same-length c = search needs
 
 returns-4 : tie.Need-returns-4
-returns-4 c =
-    let at-if3 = c .before .before in
-    let at-if2 = at-if3 .before .before in
-    let at-slot-word2 = at-if2 .before in
-    let at-if1 = at-slot-word2 .before in
-    let at-slot-word = at-if1 .before in
-    one-row _ _ _ _ _ _ (at-slot-word .slot-word .ensures) (at-if1 .if1 .left) (at-slot-word2 .slot-word2 .ensures)
-    (at-if2 .if2 .left) (at-if3 .if3 .left) (c .before .slot-word3 .ensures) (c .slot-word4 .ensures)
+returns-4 c = one-row _ _ _ _ _ _ (c .before .before .before .before .before .before .before .slot-word .ensures) (c .before .before .before .before .before .before .if1 .left) (c .before .before .before .before .before .slot-word2 .ensures) (c .before .before .before .before .if2 .left) (c .before .before .if3 .left)
+    (c .before .slot-word3 .ensures) (c .slot-word4 .ensures)
 
 pub take-row-spec : {M : Type 1} → statement M
 take-row-spec =
@@ -83,12 +66,12 @@ take-row-spec =
     returns-3
     mul-at
     slot-word-requires-3
+    slot-word-requires-4
     mul-rows
     slice-write-rows
-    slot-word-requires-4
     add-rows
     mul-rows-2
     slice-write-rows-2
-    add-t8
+    add-t10
     same-length
     returns-4)
