@@ -12,16 +12,16 @@ pub enum Took {
     TooMany,
 }
 
-// The row of slot k, if its record stands at t.
+// The row of slot k, if its record stands at t. Most that do not stand have ended, so the end is tested first.
 fn take_row(block: &[u32], k: u32, t: u32, s: Settings, rows: &mut [u32], given: u32) -> Took
     requires { ⌜ k < s .block ⌝ }
     requires { ⌜ RowRoom s (now block) given (now rows) ⌝ }
     ensures { λ r. ⌜ Takes (s .tags) (now (rows .entry)) given (rowOf t (now (block .entry)) k) r (now (rows .exit)) ⌝ }
 {
-    if t < parts::slot_word(block, k, fields::FROM) {
+    if parts::slot_word(block, k, fields::TO) <= t {
         return Took::Rows(given);
     }
-    if parts::slot_word(block, k, fields::TO) <= t {
+    if t < parts::slot_word(block, k, fields::FROM) {
         return Took::Rows(given);
     }
     if s.tags <= given {

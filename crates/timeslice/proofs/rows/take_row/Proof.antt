@@ -10,16 +10,16 @@ slot-word-requires : tie.Need-slot-word-requires
 slot-word-requires c κs = search needs
 
 returns : tie.Need-returns
-returns c = not-yet _ _ _ _ _ _ (c .before .slot-word .ensures) (c .if1 .taken) (c .before .before .before .before .pre .1 .fits)
+returns c = ended _ _ _ _ _ _ (c .before .slot-word .ensures) (c .if1 .taken) (c .before .before .before .before .pre .1 .fits)
 
 slot-word-requires-2 : tie.Need-slot-word-requires-2
 slot-word-requires-2 c κs = search needs
 
 returns-2 : tie.Need-returns-2
-returns-2 c = ended _ _ _ _ _ _ (c .before .before .before .slot-word .ensures) (c .before .before .if1 .left) (c .before .slot-word2 .ensures) (c .if2 .taken) (c .before .before .before .before .before .before .pre .1 .fits)
+returns-2 c = not-yet _ _ _ _ _ _ (c .before .slot-word2 .ensures) (c .if2 .taken) (c .before .before .before .before .before .before .pre .1 .fits)
 
 returns-3 : tie.Need-returns-3
-returns-3 c = no-room _ _ _ _ _ _ (c .before .before .before .before .before .slot-word .ensures) (c .before .before .before .before .if1 .left) (c .before .before .before .slot-word2 .ensures) (c .before .before .if2 .left) (c .if3 .taken)
+returns-3 c = no-room _ _ _ _ _ _ (c .before .before .before .slot-word2 .ensures) (c .before .before .if2 .left) (c .before .before .before .before .before .slot-word .ensures) (c .before .before .before .before .if1 .left) (c .if3 .taken)
 
 mul-at : tie.Need-mul-at
 mul-at c = search needs
@@ -52,7 +52,8 @@ same-length : tie.Need-same-length
 same-length c = search needs
 
 returns-4 : tie.Need-returns-4
-returns-4 c = one-row _ _ _ _ _ _ (c .before .before .before .before .before .before .before .slot-word .ensures) (c .before .before .before .before .before .before .if1 .left) (c .before .before .before .before .before .slot-word2 .ensures) (c .before .before .before .before .if2 .left) (c .before .before .if3 .left)
+returns-4 c =
+    one-row _ _ _ _ _ _ (c .before .before .before .before .before .slot-word2 .ensures) (c .before .before .before .before .if2 .left) (c .before .before .before .before .before .before .before .slot-word .ensures) (c .before .before .before .before .before .before .if1 .left) (c .before .before .if3 .left)
     (c .before .slot-word3 .ensures) (c .slot-word4 .ensures)
 
 pub take-row-spec : {M : Type 1} → statement M
