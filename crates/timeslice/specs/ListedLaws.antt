@@ -70,28 +70,28 @@ module _ {s : Settings} {t : ℕ} {R : Reader} {lower upper k : ℕ} {list : Lis
   pub enter-none : 0 < n → k ≡ 0 → Enters s t R lower upper k list n (Ended n) list
   enter-none h e = ended (visit-none e) h
 
-  module _ (e₁ : k ≡ 0 → ⊥) where
-    -- or it lies outside of the two numbers,
-    visit-low : k ≤ lower → VisitListed s t R lower upper k list n 0 list
+  -- or it lies outside of the two numbers,
+  visit-low : (k ≡ 0 → ⊥) → k ≤ lower → VisitListed s t R lower upper k list n 0 list
+  unfolding visit
+  visit-low e₁ e₂ = with-fuel (λ f q. rw (ne-eqb k 0 e₁, le-leb k lower e₂) none)
+
+  pub enter-low : (k ≡ 0 → ⊥) → k ≤ lower → Enters s t R lower upper k list n Unsound list
+  enter-low e₁ e₂ = broken (visit-low e₁ e₂)
+
+  module _ (e₂ : lower < k) where
+    visit-high : upper ≤ k → VisitListed s t R lower upper k list n 0 list
     unfolding visit
-    visit-low e₂ = with-fuel (λ f q. rw (ne-eqb k 0 e₁, le-leb k lower e₂) none)
+    visit-high e₃ = with-fuel (λ f q. rw (ne-eqb k 0 (λ z. omega arith), lt-leb k lower e₂, le-leb upper k e₃) none)
 
-    pub enter-low : k ≤ lower → Enters s t R lower upper k list n Unsound list
-    enter-low e₂ = broken (visit-low e₂)
+    pub enter-high : upper ≤ k → Enters s t R lower upper k list n Unsound list
+    enter-high e₃ = broken (visit-high e₃)
 
-    visit-high : lower < k → upper ≤ k → VisitListed s t R lower upper k list n 0 list
-    unfolding visit
-    visit-high e₂ e₃ = with-fuel (λ f q. rw (ne-eqb k 0 e₁, lt-leb k lower e₂, le-leb upper k e₃) none)
-
-    pub enter-high : lower < k → upper ≤ k → Enters s t R lower upper k list n Unsound list
-    enter-high e₂ e₃ = broken (visit-high e₂ e₃)
-
-    module _ (e₂ : lower < k) (e₃ : k < upper) where
+    module _ (e₃ : k < upper) where
       -- or it closed by t,
       visit-ended : blockWord (R .block k) closedWord ≤ t → VisitListed s t R lower upper k list n (n + 1) (set list n k)
       unfolding visit
       visit-ended g = with-fuel (λ f q.
-          rw (ne-eqb k 0 e₁, lt-leb k lower e₂, lt-leb upper k e₃, le-leb _ t g) (every {r = []} {l = k ∷ []} refl refl))
+          rw (ne-eqb k 0 (λ z. omega arith), lt-leb k lower e₂, lt-leb upper k e₃, le-leb _ t g) (every {r = []} {l = k ∷ []} refl refl))
 
       module _ {block : List ℕ} (is : block ≡ R .block k) {closed : ℕ} (c : closed ≡ blockWord block closedWord) where
         pub enter-ended : closed ≤ t → Enters s t R lower upper k list n (Ended (n + 1)) (set list n k)

@@ -69,7 +69,8 @@ fn list_block(
     })
 }
 
-// A link from a listed block: it must lie strictly between lower and upper. The block there is listed, and the visit goes on inside it if it closes after t.
+// A link from a listed block: 0, which ends the visit, or a block strictly between lower and upper. It is listed, and the visit goes on inside it if it
+// closes after t.
 fn enter(
     store: &[u32],
     s: Settings,
@@ -84,10 +85,10 @@ fn enter(
     requires { ⌜ ListRoom s lower upper listed (now list) ⌝ }
     ensures { λ r. ⌜ Enters s t (reader (now (store .entry))) lower upper number (now (list .entry)) listed r (now (list .exit)) ⌝ }
 {
-    if number == 0 {
-        return Entered::Ended(listed);
-    }
     if number <= lower {
+        if number == 0 {
+            return Entered::Ended(listed);
+        }
         return Entered::Unsound;
     }
     if upper <= number {

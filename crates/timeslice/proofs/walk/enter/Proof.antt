@@ -6,13 +6,13 @@ use Rattle.timeslice.proofs.walk.enter.Statement.{statement}
 use Rattle.timeslice.proofs.walk.enter.Tie as tie
 
 returns : tie.Need-returns
-returns c = enter-none (c .before .before .before .pre .1 .some) (c .if1 .taken)
+returns c = enter-none (c .before .before .before .before .pre .1 .some) (c .if2 .taken)
 
 returns-2 : tie.Need-returns-2
-returns-2 c = enter-low (c .before .if1 .left) (c .if2 .taken)
+returns-2 c = enter-low (c .if2 .left) (c .before .if1 .taken)
 
 returns-3 : tie.Need-returns-3
-returns-3 c = enter-high (c .before .before .if1 .left) (c .before .if2 .left) (c .if3 .taken)
+returns-3 c = enter-high (c .before .if1 .left) (c .if3 .taken)
 
 mul-list : tie.Need-mul-list
 mul-list c = search needs
@@ -26,23 +26,23 @@ block-requires c κs = search needs
 block-word-requires : tie.Need-block-word-requires
 block-word-requires c κs = search needs
 
-add-t15 : tie.Need-add-t15
-add-t15 c = search needs
+add-t16 : tie.Need-add-t16
+add-t16 c = search needs
 
 same-length : tie.Need-same-length
 same-length c = search needs
 
 returns-4 : tie.Need-returns-4
-returns-4 c = enter-ended (c .before .before .before .before .before .if1 .left) (c .before .before .before .before .if2 .left) (c .before .before .before .if3 .left) (part-is (c .before .before .before .before .before .before .before .before .pre .0) (c .before .before .block .ensures)) (c .before .block-word .ensures) (c .if4 .taken)
+returns-4 c = enter-ended (c .before .before .before .before .if1 .left) (c .before .before .before .if3 .left) (part-is (c .before .before .before .before .before .before .before .pre .0) (c .before .before .block .ensures)) (c .before .block-word .ensures) (c .if4 .taken)
 
-add-t14 : tie.Need-add-t14
-add-t14 c = search needs
+add-t15 : tie.Need-add-t15
+add-t15 c = search needs
 
 same-length-2 : tie.Need-same-length-2
 same-length-2 c = search needs
 
 returns-5 : tie.Need-returns-5
-returns-5 c = enter-within (c .before .before .before .before .before .if1 .left) (c .before .before .before .before .if2 .left) (c .before .before .before .if3 .left) (part-is (c .before .before .before .before .before .before .before .before .pre .0) (c .before .before .block .ensures)) (c .before .block-word .ensures) (c .if4 .left)
+returns-5 c = enter-within (c .before .before .before .before .if1 .left) (c .before .before .before .if3 .left) (part-is (c .before .before .before .before .before .before .before .pre .0) (c .before .before .block .ensures)) (c .before .block-word .ensures) (c .if4 .left)
 
 pub enter-spec : {M : Type 1} → statement M
 enter-spec =
@@ -55,9 +55,9 @@ enter-spec =
     slice-write-list
     block-requires
     block-word-requires
-    add-t15
+    add-t16
     same-length
     returns-4
-    add-t14
+    add-t15
     same-length-2
     returns-5)
