@@ -1,7 +1,7 @@
 -- The listing's answers: each way out of the code lists the visit as it is defined; what is listed leaves room; and with the rows that follow from the
 -- list the whole visit is told.
-use mathlib.Core.Path.{_≡_, refl, sym, ap, _∙_}
-use mathlib.Core.List.{List, [], _∷_, _++_, append-assoc, append-nil}
+use mathlib.Core.Path.{_≡_, refl, sym, _∙_}
+use mathlib.Core.List.{List, [], _∷_, _++_, append-assoc}
 use Prim.Native.Nat.{ℕ, zero, suc, _+_, _-_, _≤_, _<_}
 use native.Mathlib.Omega.{arith}
 use lib.ListN.{length, set, take, drop, length-append, length-take}
@@ -13,18 +13,17 @@ use Rattle.layout.specs.Address.{Numbered}
 use Rattle.layout.specs.Fields.{closedWord, leftWord, childWord}
 use Rattle.layout.specs.Parts.{blockWord}
 use Rattle.calls.specs.Calls.{Row}
-use Rattle.calls.specs.Walk.{Reader, Walk, unsound, found, andThen, rowsOf, visit}
+use Rattle.calls.specs.Walk.{Reader, Walk, found, andThen, rowsOf, visit}
 use Rattle.timeslice.specs.declared.Counts.{Counts}
 use Rattle.timeslice.specs.declared.rows.Took.{Took}
 use Rattle.timeslice.specs.declared.rows.Took.the-variants.{Rows, TooMany}
-use Rattle.timeslice.specs.declared.walk.Walked.{Walked}
 use Rattle.timeslice.specs.declared.walk.Walked.the-variants.{Done, Unsound as Stopped}
 use Rattle.timeslice.specs.declared.walk.Entered.{Entered}
 use Rattle.timeslice.specs.declared.walk.Entered.the-variants.{Within, Ended, Unsound}
 use Rattle.timeslice.specs.Taken.{Takes, all, many}
 use Rattle.timeslice.specs.TakenLaws.{sets-append}
 use Rattle.timeslice.specs.Told.{Told, done, over, bad, VisitTold, Gap}
-use Rattle.timeslice.specs.Listed.{rowsIn, Listed, every, none, VisitListed, childOf, leftOf, InsideListed, Enters, within, ended, broken, ListRoom, InsideRoom, RowBuffer}
+use Rattle.timeslice.specs.Listed.{rowsIn, Listed, every, none, VisitListed, leftOf, InsideListed, Enters, within, ended, broken, ListRoom, InsideRoom, RowBuffer}
 use Rattle.timeslice.specs.VisitLaws.{visit-short, short-found, visit-follows, follows-rows, follows-all}
 
 -- ---- one walk listed after another

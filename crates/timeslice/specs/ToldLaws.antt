@@ -1,7 +1,7 @@
 -- Walks told one after another are told as one walk; a walk that stops, stops the whole. And a block listed, its rows taken, is told.
 use mathlib.Core.Path.{_≡_, refl, sym, _∙_}
 use mathlib.Core.List.{List, [], _∷_, _++_}
-use Prim.Native.Nat.{ℕ, _+_, _≤_, _<_}
+use Prim.Native.Nat.{ℕ, _+_, _≤_}
 use native.Mathlib.Omega.{arith}
 use lib.ListN.{length, set, length-append}
 use Rattle.layout.specs.declared.settings.Settings.{Settings}

@@ -10,7 +10,6 @@ use borrow.Author.Tests.{le-leb, lt-leb}
 use Rattle.base.specs.Sums.{All, nil, cons}
 use Rattle.layout.specs.Fields.{closedWord}
 use Rattle.layout.specs.Parts.{blockWord}
-use Rattle.calls.specs.Calls.{Row}
 use Rattle.calls.specs.Walk.{Reader, rowsOf}
 use Rattle.timeslice.specs.declared.rows.Took.{Took}
 use Rattle.timeslice.specs.declared.rows.Took.the-variants.{Rows, TooMany}

@@ -10,16 +10,26 @@ slot-word-requires : tie.Need-slot-word-requires
 slot-word-requires c κs = search needs
 
 returns : tie.Need-returns
-returns c = ended _ _ _ _ _ _ (c .before .slot-word .ensures) (c .if1 .taken) (c .before .before .before .before .pre .1 .fits)
+returns c =
+    let start = c .before .before .before .before in
+    ended _ _ _ _ _ _ (c .before .slot-word .ensures) (c .if1 .taken) (start .pre .1 .fits)
 
 slot-word-requires-2 : tie.Need-slot-word-requires-2
 slot-word-requires-2 c κs = search needs
 
 returns-2 : tie.Need-returns-2
-returns-2 c = not-yet _ _ _ _ _ _ (c .before .slot-word2 .ensures) (c .if2 .taken) (c .before .before .before .before .before .before .pre .1 .fits)
+returns-2 c =
+    let start = c .before .before .before .before .before .before in
+    not-yet _ _ _ _ _ _ (c .before .slot-word2 .ensures) (c .if2 .taken) (start .pre .1 .fits)
 
 returns-3 : tie.Need-returns-3
-returns-3 c = no-room _ _ _ _ _ _ (c .before .before .before .slot-word2 .ensures) (c .before .before .if2 .left) (c .before .before .before .before .before .slot-word .ensures) (c .before .before .before .before .if1 .left) (c .if3 .taken)
+returns-3 c =
+    let at-if2 = c .before .before in
+    let at-slot-word2 = at-if2 .before in
+    let at-if1 = at-slot-word2 .before in
+    let at-slot-word = at-if1 .before in
+    no-room _ _ _ _ _ _ (at-slot-word2 .slot-word2 .ensures) (at-if2 .if2 .left) (at-slot-word .slot-word .ensures)
+    (at-if1 .if1 .left) (c .if3 .taken)
 
 mul-at : tie.Need-mul-at
 mul-at c = search needs
@@ -53,8 +63,13 @@ same-length c = search needs
 
 returns-4 : tie.Need-returns-4
 returns-4 c =
-    one-row _ _ _ _ _ _ (c .before .before .before .before .before .slot-word2 .ensures) (c .before .before .before .before .if2 .left) (c .before .before .before .before .before .before .before .slot-word .ensures) (c .before .before .before .before .before .before .if1 .left) (c .before .before .if3 .left)
-    (c .before .slot-word3 .ensures) (c .slot-word4 .ensures)
+    let at-if3 = c .before .before in
+    let at-if2 = at-if3 .before .before in
+    let at-slot-word2 = at-if2 .before in
+    let at-if1 = at-slot-word2 .before in
+    let at-slot-word = at-if1 .before in
+    one-row _ _ _ _ _ _ (at-slot-word2 .slot-word2 .ensures) (at-if2 .if2 .left) (at-slot-word .slot-word .ensures)
+    (at-if1 .if1 .left) (at-if3 .if3 .left) (c .before .slot-word3 .ensures) (c .slot-word4 .ensures)
 
 pub take-row-spec : {M : Type 1} → statement M
 take-row-spec =

@@ -12,7 +12,11 @@ block-word-requires : tie.Need-block-word-requires
 block-word-requires c κs = search needs
 
 returns : tie.Need-returns
-returns c = block-ended _ _ _ _ _ _ _ (part-is (c .before .before .before .before .before .pre .0) (c .before .before .block .ensures)) (c .before .block-word .ensures) (c .if1 .taken) (c .before .before .before .before .before .pre .1 .1 .fits)
+returns c =
+    let at-block = c .before .before in
+    let start = at-block .before .before .before in
+    block-ended _ _ _ _ _ _ _ (part-is (start .pre .0) (at-block .block .ensures)) (c .before .block-word .ensures)
+    (c .if1 .taken) (start .pre .1 .1 .fits)
 
 take-rows-requires : tie.Need-take-rows-requires
 take-rows-requires c κs = search needs
@@ -21,7 +25,14 @@ same-length : tie.Need-same-length
 same-length c = search needs
 
 returns-2 : tie.Need-returns-2
-returns-2 c = block-taken _ _ _ _ _ _ _ (part-is (c .before .before .before .before .before .before .before .before .before .pre .0) (c .before .before .before .before .before .before .block .ensures)) (c .before .before .before .before .before .block-word .ensures) (c .before .before .before .before .if1 .left) (c .before .before .take-rows .ensures)
+returns-2 c =
+    let at-take-rows = c .before .before in
+    let at-if1 = at-take-rows .before .before in
+    let at-block-word = at-if1 .before in
+    let at-block = at-block-word .before in
+    let start = at-block .before .before .before in
+    block-taken _ _ _ _ _ _ _ (part-is (start .pre .0) (at-block .block .ensures)) (at-block-word .block-word .ensures)
+    (at-if1 .if1 .left) (at-take-rows .take-rows .ensures)
 
 pub take-block-spec : {M : Type 1} → statement M
 take-block-spec =

@@ -22,7 +22,9 @@ abbrev μ-loop : tie.MeasureT-loop
 μ-loop store s listed t rows₀ given i₀ so-far₀ rows i so-far = length listed - i
 
 loop-holds : tie.Need-loop-holds Inv-loop μ-loop
-loop-holds c = (search needs, c .before .before .before .pre .1 .1 .fits, refl, listed-none _ _ _ _ _ _ (c .before .before .before .pre .1 .1 .fits))
+loop-holds c =
+    let room = c .before .before .before .pre .1 .1 in
+    (search needs, room .fits, refl, listed-none _ _ _ _ _ _ (room .fits))
 
 mul-take-block : tie.Need-mul-take-block Inv-loop μ-loop
 mul-take-block c = search needs
@@ -31,7 +33,15 @@ shared-slice-read-take-block : tie.Need-shared-slice-read-take-block Inv-loop μ
 shared-slice-read-take-block c = search needs
 
 take-block-requires : tie.Need-take-block-requires Inv-loop μ-loop
-take-block-requires c κs = (c .before .before .before .before .before .before .before .pre .0, (all-at (c .before .before .before .before .before .before .before .pre .1 .0) _ (c .before .before .loop-test .taken), record { fits = c .before .before .before .loop .inv .1; long = omega (arith, c .before .before .before .before .before .before .before .pre .1 .1 .long, c .before .before .before .loop .inv .2) }))
+take-block-requires c κs =
+    let at-loop = c .before .before .before in
+    let start = at-loop .before .before .before .before in (
+      start .pre .0,
+      (
+        all-at (start .pre .1 .0) _ (c .before .before .loop-test .taken),
+        record { fits = at-loop .loop .inv .1; long = omega (arith, start .pre .1 .1 .long, at-loop .loop .inv .2) },
+      ),
+    )
 
 enum-known-more : tie.Need-enum-known-more Inv-loop μ-loop
 enum-known-more c = search needs
@@ -43,7 +53,12 @@ same-length : tie.Need-same-length Inv-loop μ-loop
 same-length c = search needs
 
 returns : tie.Need-returns Inv-loop μ-loop
-returns c = listed-many _ _ _ _ _ _ _ _ (c .before .before .before .before .before .before .before .before .loop .inv .3) (c .before .before .before .before .before .before .before .loop-test .taken) (c .before .before .before .before .take-block .ensures) (c .enum-told .given .1)
+returns c =
+    let at-take-block = c .before .before .before .before in
+    let at-loop-test = at-take-block .before .before .before in
+    let at-loop = at-loop-test .before in
+    listed-many _ _ _ _ _ _ _ _ (at-loop .loop .inv .3) (at-loop-test .loop-test .taken) (at-take-block .take-block .ensures)
+    (c .enum-told .given .1)
 
 add-i : tie.Need-add-i Inv-loop μ-loop
 add-i c = search needs
@@ -53,8 +68,12 @@ loop-less c = search needs
 
 loop-again : tie.Need-loop-again Inv-loop μ-loop
 loop-again c =
-    let z = listed-more _ _ _ _ _ _ _ _ (c .before .before .before .before .before .before .before .before .before .loop .inv .3) (c .before .before .before .before .before .before .before .before .loop-test .taken) (c .before .before .before .before .before .take-block .ensures) (c .before .more .given .1) in
-    (omega (arith, c .before .before .before .before .before .before .before .before .loop-test .taken), taken-fits z, search needs, z)
+    let at-take-block = c .before .before .before .before .before in
+    let at-loop-test = at-take-block .before .before .before in
+    let at-loop = at-loop-test .before in
+    let z = listed-more _ _ _ _ _ _ _ _ (at-loop .loop .inv .3) (at-loop-test .loop-test .taken) (at-take-block .take-block .ensures)
+    (c .before .more .given .1) in
+    (omega (arith, at-loop-test .loop-test .taken), taken-fits z, search needs, z)
 
 same-length-2 : tie.Need-same-length-2 Inv-loop μ-loop
 same-length-2 c = search needs

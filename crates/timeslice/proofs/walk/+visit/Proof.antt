@@ -36,7 +36,10 @@ visit-block-requires : (t : ℕ) → visit-lts.Need-block-requires (
   visit-below t,
   visit.Post,
 ) (visit-at t) visit.Post
-visit-block-requires t c κs = (inside-numbered (c .before .before .pre .1 .1), c .before .before .pre .1 .0 .held)
+visit-block-requires t c κs =
+    let start = c .before .before in
+    let room = start .pre .1 .1 in
+    (inside-numbered room, start .pre .1 .0 .held)
 
 visit-block-word-requires : (t : ℕ) → visit-lts.Need-block-word-requires (
   block-reads.Asked,
@@ -72,7 +75,10 @@ visit-enter-requires : (t : ℕ) → visit-lts.Need-enter-requires (
   visit-below t,
   visit.Post,
 ) (visit-at t) visit.Post
-visit-enter-requires t c κs = (c .before .before .before .before .before .before .pre .1 .0, child-room (c .before .before .before .before .before .before .pre .1 .1))
+visit-enter-requires t c κs =
+    let start = c .before .before .before .before .before .before in
+    let room = start .pre .1 .1 in
+    (start .pre .1 .0, child-room room)
 
 visit-enum-told : (t : ℕ) → visit-lts.Need-enum-told (
   block-reads.Asked,
@@ -108,7 +114,16 @@ visit-enter-requires-2 : (t : ℕ) → visit-lts.Need-enter-requires-2 (
   visit-below t,
   visit.Post,
 ) (visit-at t) visit.Post
-visit-enter-requires-2 t c κs = (c .before .before .before .before .before .before .before .before .before .before .before .before .before .pre .1 .0, left-room (c .before .before .before .before .before .before .before .before .before .before .before .before .before .pre .1 .1) (by-end (c .before .before .before .before .before .before .enter .ensures) (c .before .before .m .given .1)) (some-listed (c .before .before .before .before .before .before .enter .ensures) (c .before .before .m .given .1)) (c .before .before .before .before .before .before .enter .kept .1 .1 .1 .1 .1 .1 .0))
+visit-enter-requires-2 t c κs =
+    let at-m = c .before .before in
+    let at-enter = at-m .before .before .before .before in
+    let start = at-enter .before .before .before .before .before .before .before in
+    let room = start .pre .1 .1 in
+    let first = by-end (at-enter .enter .ensures) (at-m .m .given .1) in (
+      start .pre .1 .0,
+      left-room room first (some-listed (at-enter .enter .ensures) (at-m .m .given .1))
+          (at-enter .enter .kept .1 .1 .1 .1 .1 .1 .0),
+    )
 
 visit-enum-told-2 : (t : ℕ) → visit-lts.Need-enum-told-2 (
   block-reads.Asked,
@@ -156,7 +171,23 @@ visit-visit-requires : (t : ℕ) → visit-lts.Need-visit-requires (
   visit-below t,
   visit.Post,
 ) (visit-at t) visit.Post
-visit-visit-requires t c κs = (omega (arith, c .before .before .before .before .before .before .before .before .before .before .before .before .before .before .before .before .before .before .before .before .pre .0, c .before .before .before .before .before .before .before .before .before .before .before .before .before .before .before .before .before .before .before .before .pre .1 .1 .low, c .before .before .before .before .before .before .before .before .before .before .before .before .before .before .before .before .before .before .before .before .pre .1 .1 .high), (c .before .before .before .before .before .before .before .before .before .before .before .before .before .before .before .before .before .before .before .before .pre .1 .0, inside-room (c .before .before .before .before .before .before .enter2 .ensures) (left-room (c .before .before .before .before .before .before .before .before .before .before .before .before .before .before .before .before .before .before .before .before .pre .1 .1) (by-end (c .before .before .before .before .before .before .before .before .before .before .before .before .before .enter .ensures) (c .before .before .before .before .before .before .before .before .before .m .given .1)) (some-listed (c .before .before .before .before .before .before .before .before .before .before .before .before .before .enter .ensures) (c .before .before .before .before .before .before .before .before .before .m .given .1)) (c .before .before .before .before .before .before .before .before .before .before .before .before .before .enter .kept .1 .1 .1 .1 .1 .1 .0)) (c .before .before .k2 .given .1) (c .before .before .before .before .before .before .enter2 .kept .1 .1 .1 .1 .1 .1 .0)))
+visit-visit-requires t c κs =
+    let at-k2 = c .before .before in
+    let at-enter2 = at-k2 .before .before .before .before in
+    let at-m = at-enter2 .before .before .before in
+    let at-enter = at-m .before .before .before .before in
+    let start = at-enter .before .before .before .before .before .before .before in
+    let room = start .pre .1 .1 in
+    let first = by-end (at-enter .enter .ensures) (at-m .m .given .1) in
+    let left = left-room room first (some-listed (at-enter .enter .ensures) (at-m .m .given .1))
+    (at-enter .enter .kept .1 .1 .1 .1 .1 .1 .0) in (
+      omega (arith, start .pre .0, room .low, room .high),
+      (
+        start .pre .1 .0,
+        inside-room (at-enter2 .enter2 .ensures) left (at-k2 .k2 .given .1)
+            (at-enter2 .enter2 .kept .1 .1 .1 .1 .1 .1 .0),
+      ),
+    )
 
 visit-enum-known-m-2 : (t : ℕ) → visit-lts.Need-enum-known-m-2 (
   block-reads.Asked,
@@ -180,7 +211,18 @@ visit-visit-requires-2 : (t : ℕ) → visit-lts.Need-visit-requires-2 (
   visit-below t,
   visit.Post,
 ) (visit-at t) visit.Post
-visit-visit-requires-2 t c κs = (omega (arith, c .before .before .before .before .before .before .before .before .before .before .before .before .before .pre .0, c .before .before .before .before .before .before .before .before .before .before .before .before .before .pre .1 .1 .low, c .before .before .before .before .before .before .before .before .before .before .before .before .before .pre .1 .1 .high), (c .before .before .before .before .before .before .before .before .before .before .before .before .before .pre .1 .0, inside-room (c .before .before .before .before .before .before .enter .ensures) (child-room (c .before .before .before .before .before .before .before .before .before .before .before .before .before .pre .1 .1)) (c .before .before .m2 .given .1) (c .before .before .before .before .before .before .enter .kept .1 .1 .1 .1 .1 .1 .0)))
+visit-visit-requires-2 t c κs =
+    let at-m2 = c .before .before in
+    let at-enter = at-m2 .before .before .before .before in
+    let start = at-enter .before .before .before .before .before .before .before in
+    let room = start .pre .1 .1 in (
+      omega (arith, start .pre .0, room .low, room .high),
+      (
+        start .pre .1 .0,
+        inside-room (at-enter .enter .ensures) (child-room room) (at-m2 .m2 .given .1)
+            (at-enter .enter .kept .1 .1 .1 .1 .1 .1 .0),
+      ),
+    )
 
 visit-same-length : (t : ℕ) → visit-lts.Need-same-length (
   block-reads.Asked,
@@ -204,7 +246,17 @@ visit-returns : (t : ℕ) → visit-lts.Need-returns (
   visit-below t,
   visit.Post,
 ) (visit-at t) visit.Post
-visit-returns t c = inside-stops (c .before .before .before .before .before .before .before .before .before .before .before .before .before .before .before .before .before .pre .1 .1) (by-inside (c .before .before .before .before .before .before .before .before .before .before .enter .ensures) (c .before .before .before .before .before .before .m2 .given .1) (c .before .before .before .visit2 .ensures)) (part-is (c .before .before .before .before .before .before .before .before .before .before .before .before .before .before .before .before .before .pre .1 .0) (c .before .before .before .before .before .before .before .before .before .before .before .before .before .before .block .ensures)) (c .before .before .before .before .before .before .before .before .before .before .before .before .before .block-word .ensures) (c .if1 .taken)
+visit-returns t c =
+    let at-visit2 = c .before .before .before in
+    let at-m2 = at-visit2 .before .before .before in
+    let at-enter = at-m2 .before .before .before .before in
+    let at-block-word = at-enter .before .before .before in
+    let at-block = at-block-word .before in
+    let start = at-block .before .before .before in
+    let room = start .pre .1 .1 in
+    let is = part-is (start .pre .1 .0) (at-block .block .ensures) in
+    let first = by-inside (at-enter .enter .ensures) (at-m2 .m2 .given .1) (at-visit2 .visit2 .ensures) in
+    inside-stops room first is (at-block-word .block-word .ensures) (c .if1 .taken)
 
 visit-enter-requires-3 : (t : ℕ) → visit-lts.Need-enter-requires-3 (
   block-reads.Asked,
@@ -216,7 +268,17 @@ visit-enter-requires-3 : (t : ℕ) → visit-lts.Need-enter-requires-3 (
   visit-below t,
   visit.Post,
 ) (visit-at t) visit.Post
-visit-enter-requires-3 t c κs = (c .before .before .before .before .before .before .before .before .before .before .before .before .before .before .before .before .before .before .pre .1 .0, left-room (c .before .before .before .before .before .before .before .before .before .before .before .before .before .before .before .before .before .before .pre .1 .1) (by-inside (c .before .before .before .before .before .before .before .before .before .before .before .enter .ensures) (c .before .before .before .before .before .before .before .m2 .given .1) (c .before .before .before .before .visit2 .ensures)) (omega (arith, c .before .if1 .left)) (c .before .before .before .before .visit2 .kept .1 .1 .1 .1 .1 .1 .0 ∙ c .before .before .before .before .before .before .before .before .before .before .before .enter .kept .1 .1 .1 .1 .1 .1 .0))
+visit-enter-requires-3 t c κs =
+    let at-visit2 = c .before .before .before .before in
+    let at-m2 = at-visit2 .before .before .before in
+    let at-enter = at-m2 .before .before .before .before in
+    let start = at-enter .before .before .before .before .before .before .before in
+    let room = start .pre .1 .1 in
+    let first = by-inside (at-enter .enter .ensures) (at-m2 .m2 .given .1) (at-visit2 .visit2 .ensures) in (
+      start .pre .1 .0,
+      left-room room first (omega (arith, c .before .if1 .left))
+          (at-visit2 .visit2 .kept .1 .1 .1 .1 .1 .1 .0 ∙ at-enter .enter .kept .1 .1 .1 .1 .1 .1 .0),
+    )
 
 visit-enum-told-3 : (t : ℕ) → visit-lts.Need-enum-told-3 (
   block-reads.Asked,
@@ -264,7 +326,25 @@ visit-visit-requires-3 : (t : ℕ) → visit-lts.Need-visit-requires-3 (
   visit-below t,
   visit.Post,
 ) (visit-at t) visit.Post
-visit-visit-requires-3 t c κs = (omega (arith, c .before .before .before .before .before .before .before .before .before .before .before .before .before .before .before .before .before .before .before .before .before .before .before .before .before .pre .0, c .before .before .before .before .before .before .before .before .before .before .before .before .before .before .before .before .before .before .before .before .before .before .before .before .before .pre .1 .1 .low, c .before .before .before .before .before .before .before .before .before .before .before .before .before .before .before .before .before .before .before .before .before .before .before .before .before .pre .1 .1 .high), (c .before .before .before .before .before .before .before .before .before .before .before .before .before .before .before .before .before .before .before .before .before .before .before .before .before .pre .1 .0, inside-room (c .before .before .before .before .before .before .enter3 .ensures) (left-room (c .before .before .before .before .before .before .before .before .before .before .before .before .before .before .before .before .before .before .before .before .before .before .before .before .before .pre .1 .1) (by-inside (c .before .before .before .before .before .before .before .before .before .before .before .before .before .before .before .before .before .before .enter .ensures) (c .before .before .before .before .before .before .before .before .before .before .before .before .before .before .m2 .given .1) (c .before .before .before .before .before .before .before .before .before .before .before .visit2 .ensures)) (omega (arith, c .before .before .before .before .before .before .before .before .if1 .left)) (c .before .before .before .before .before .before .before .before .before .before .before .visit2 .kept .1 .1 .1 .1 .1 .1 .0 ∙ c .before .before .before .before .before .before .before .before .before .before .before .before .before .before .before .before .before .before .enter .kept .1 .1 .1 .1 .1 .1 .0)) (c .before .before .k4 .given .1) (c .before .before .before .before .before .before .enter3 .kept .1 .1 .1 .1 .1 .1 .0)))
+visit-visit-requires-3 t c κs =
+    let at-k4 = c .before .before in
+    let at-enter3 = at-k4 .before .before .before .before in
+    let at-if1 = at-enter3 .before .before in
+    let at-visit2 = at-if1 .before .before .before in
+    let at-m2 = at-visit2 .before .before .before in
+    let at-enter = at-m2 .before .before .before .before in
+    let start = at-enter .before .before .before .before .before .before .before in
+    let room = start .pre .1 .1 in
+    let first = by-inside (at-enter .enter .ensures) (at-m2 .m2 .given .1) (at-visit2 .visit2 .ensures) in
+    let left = left-room room first (omega (arith, at-if1 .if1 .left))
+    (at-visit2 .visit2 .kept .1 .1 .1 .1 .1 .1 .0 ∙ at-enter .enter .kept .1 .1 .1 .1 .1 .1 .0) in (
+      omega (arith, start .pre .0, room .low, room .high),
+      (
+        start .pre .1 .0,
+        inside-room (at-enter3 .enter3 .ensures) left (at-k4 .k4 .given .1)
+            (at-enter3 .enter3 .kept .1 .1 .1 .1 .1 .1 .0),
+      ),
+    )
 
 visit-same-length-2 : (t : ℕ) → visit-lts.Need-same-length-2 (
   block-reads.Asked,
@@ -288,7 +368,15 @@ visit-returns-2 : (t : ℕ) → visit-lts.Need-returns-2 (
   visit-below t,
   visit.Post,
 ) (visit-at t) visit.Post
-visit-returns-2 t c = inside-stops (c .before .before .before .before .before .before .before .before .before .before .before .pre .1 .1) (by-break (c .before .before .before .before .enter .ensures) (c .enum-told .given .1)) (part-is (c .before .before .before .before .before .before .before .before .before .before .before .pre .1 .0) (c .before .before .before .before .before .before .before .before .block .ensures)) (c .before .before .before .before .before .before .before .block-word .ensures) refl
+visit-returns-2 t c =
+    let at-enter = c .before .before .before .before in
+    let at-block-word = at-enter .before .before .before in
+    let at-block = at-block-word .before in
+    let start = at-block .before .before .before in
+    let room = start .pre .1 .1 in
+    let is = part-is (start .pre .1 .0) (at-block .block .ensures) in
+    inside-stops room (by-break (at-enter .enter .ensures) (c .enum-told .given .1)) is (at-block-word .block-word .ensures)
+    refl
 
 visit-same-length-3 : (t : ℕ) → visit-lts.Need-same-length-3 (
   block-reads.Asked,
@@ -312,7 +400,19 @@ visit-returns-3 : (t : ℕ) → visit-lts.Need-returns-3 (
   visit-below t,
   visit.Post,
 ) (visit-at t) visit.Post
-visit-returns-3 t c = inside-on (c .before .before .before .before .before .before .before .before .before .before .before .before .before .before .before .before .before .before .pre .1 .1) (by-end (c .before .before .before .before .before .before .before .before .before .before .before .enter .ensures) (c .before .before .before .before .before .before .before .m .given .1)) (some-listed (c .before .before .before .before .before .before .before .before .before .before .before .enter .ensures) (c .before .before .before .before .before .before .before .m .given .1)) (part-is (c .before .before .before .before .before .before .before .before .before .before .before .before .before .before .before .before .before .before .pre .1 .0) (c .before .before .before .before .before .before .before .before .before .before .before .before .before .before .before .block .ensures)) (c .before .before .before .before .before .before .before .before .before .before .before .before .before .before .block-word .ensures) (c .before .before .before .before .before .before .before .before .before .before .before .before .before .block-word2 .ensures) (by-break (c .before .before .before .before .enter2 .ensures) (c .enum-told2 .given .1))
+visit-returns-3 t c =
+    let at-enter2 = c .before .before .before .before in
+    let at-m = at-enter2 .before .before .before in
+    let at-enter = at-m .before .before .before .before in
+    let at-block-word2 = at-enter .before .before in
+    let at-block-word = at-block-word2 .before in
+    let at-block = at-block-word .before in
+    let start = at-block .before .before .before in
+    let room = start .pre .1 .1 in
+    let is = part-is (start .pre .1 .0) (at-block .block .ensures) in
+    let first = by-end (at-enter .enter .ensures) (at-m .m .given .1) in
+    inside-on room first (some-listed (at-enter .enter .ensures) (at-m .m .given .1)) is (at-block-word .block-word .ensures)
+    (at-block-word2 .block-word2 .ensures) (by-break (at-enter2 .enter2 .ensures) (c .enum-told2 .given .1))
 
 visit-same-length-4 : (t : ℕ) → visit-lts.Need-same-length-4 (
   block-reads.Asked,
@@ -336,7 +436,19 @@ visit-returns-4 : (t : ℕ) → visit-lts.Need-returns-4 (
   visit-below t,
   visit.Post,
 ) (visit-at t) visit.Post
-visit-returns-4 t c = inside-on (c .before .before .before .before .before .before .before .before .before .before .before .before .before .before .before .before .before .before .before .pre .1 .1) (by-end (c .before .before .before .before .before .before .before .before .before .before .before .before .enter .ensures) (c .before .before .before .before .before .before .before .before .m .given .1)) (some-listed (c .before .before .before .before .before .before .before .before .before .before .before .before .enter .ensures) (c .before .before .before .before .before .before .before .before .m .given .1)) (part-is (c .before .before .before .before .before .before .before .before .before .before .before .before .before .before .before .before .before .before .before .pre .1 .0) (c .before .before .before .before .before .before .before .before .before .before .before .before .before .before .before .before .block .ensures)) (c .before .before .before .before .before .before .before .before .before .before .before .before .before .before .before .block-word .ensures) (c .before .before .before .before .before .before .before .before .before .before .before .before .before .before .block-word2 .ensures) (by-end (c .before .before .before .before .before .enter2 .ensures) (c .before .k .given .1))
+visit-returns-4 t c =
+    let at-enter2 = c .before .before .before .before .before in
+    let at-m = at-enter2 .before .before .before in
+    let at-enter = at-m .before .before .before .before in
+    let at-block-word2 = at-enter .before .before in
+    let at-block-word = at-block-word2 .before in
+    let at-block = at-block-word .before in
+    let start = at-block .before .before .before in
+    let room = start .pre .1 .1 in
+    let is = part-is (start .pre .1 .0) (at-block .block .ensures) in
+    let first = by-end (at-enter .enter .ensures) (at-m .m .given .1) in
+    inside-on room first (some-listed (at-enter .enter .ensures) (at-m .m .given .1)) is (at-block-word .block-word .ensures)
+    (at-block-word2 .block-word2 .ensures) (by-end (at-enter2 .enter2 .ensures) (c .before .k .given .1))
 
 visit-same-length-5 : (t : ℕ) → visit-lts.Need-same-length-5 (
   block-reads.Asked,
@@ -360,7 +472,22 @@ visit-returns-5 : (t : ℕ) → visit-lts.Need-returns-5 (
   visit-below t,
   visit.Post,
 ) (visit-at t) visit.Post
-visit-returns-5 t c = inside-on (c .before .before .before .before .before .before .before .before .before .before .before .before .before .before .before .before .before .before .before .before .before .before .before .pre .1 .1) (by-end (c .before .before .before .before .before .before .before .before .before .before .before .before .before .before .before .before .enter .ensures) (c .before .before .before .before .before .before .before .before .before .before .before .before .m .given .1)) (some-listed (c .before .before .before .before .before .before .before .before .before .before .before .before .before .before .before .before .enter .ensures) (c .before .before .before .before .before .before .before .before .before .before .before .before .m .given .1)) (part-is (c .before .before .before .before .before .before .before .before .before .before .before .before .before .before .before .before .before .before .before .before .before .before .before .pre .1 .0) (c .before .before .before .before .before .before .before .before .before .before .before .before .before .before .before .before .before .before .before .before .block .ensures)) (c .before .before .before .before .before .before .before .before .before .before .before .before .before .before .before .before .before .before .before .block-word .ensures) (c .before .before .before .before .before .before .before .before .before .before .before .before .before .before .before .before .before .before .block-word2 .ensures) (by-inside (c .before .before .before .before .before .before .before .before .before .enter2 .ensures) (c .before .before .before .before .before .k2 .given .1) (c .before .before .visit .ensures))
+visit-returns-5 t c =
+    let at-visit = c .before .before in
+    let at-k2 = at-visit .before .before .before in
+    let at-enter2 = at-k2 .before .before .before .before in
+    let at-m = at-enter2 .before .before .before in
+    let at-enter = at-m .before .before .before .before in
+    let at-block-word2 = at-enter .before .before in
+    let at-block-word = at-block-word2 .before in
+    let at-block = at-block-word .before in
+    let start = at-block .before .before .before in
+    let room = start .pre .1 .1 in
+    let is = part-is (start .pre .1 .0) (at-block .block .ensures) in
+    let first = by-end (at-enter .enter .ensures) (at-m .m .given .1) in
+    inside-on room first (some-listed (at-enter .enter .ensures) (at-m .m .given .1)) is (at-block-word .block-word .ensures)
+    (at-block-word2 .block-word2 .ensures)
+    (by-inside (at-enter2 .enter2 .ensures) (at-k2 .k2 .given .1) (at-visit .visit .ensures))
 
 visit-same-length-6 : (t : ℕ) → visit-lts.Need-same-length-6 (
   block-reads.Asked,
@@ -384,7 +511,21 @@ visit-returns-6 : (t : ℕ) → visit-lts.Need-returns-6 (
   visit-below t,
   visit.Post,
 ) (visit-at t) visit.Post
-visit-returns-6 t c = inside-on (c .before .before .before .before .before .before .before .before .before .before .before .before .before .before .before .before .before .before .before .before .before .before .before .pre .1 .1) (by-inside (c .before .before .before .before .before .before .before .before .before .before .before .before .before .before .before .before .enter .ensures) (c .before .before .before .before .before .before .before .before .before .before .before .before .m2 .given .1) (c .before .before .before .before .before .before .before .before .before .visit2 .ensures)) (omega (arith, c .before .before .before .before .before .before .if1 .left)) (part-is (c .before .before .before .before .before .before .before .before .before .before .before .before .before .before .before .before .before .before .before .before .before .before .before .pre .1 .0) (c .before .before .before .before .before .before .before .before .before .before .before .before .before .before .before .before .before .before .before .before .block .ensures)) (c .before .before .before .before .before .before .before .before .before .before .before .before .before .before .before .before .before .before .before .block-word .ensures) (c .before .before .before .before .before .before .before .before .before .before .before .before .before .before .before .before .before .before .block-word2 .ensures) (by-break (c .before .before .before .before .enter3 .ensures) (c .enum-told3 .given .1))
+visit-returns-6 t c =
+    let at-enter3 = c .before .before .before .before in
+    let at-if1 = at-enter3 .before .before in
+    let at-visit2 = at-if1 .before .before .before in
+    let at-m2 = at-visit2 .before .before .before in
+    let at-enter = at-m2 .before .before .before .before in
+    let at-block-word2 = at-enter .before .before in
+    let at-block-word = at-block-word2 .before in
+    let at-block = at-block-word .before in
+    let start = at-block .before .before .before in
+    let room = start .pre .1 .1 in
+    let is = part-is (start .pre .1 .0) (at-block .block .ensures) in
+    let first = by-inside (at-enter .enter .ensures) (at-m2 .m2 .given .1) (at-visit2 .visit2 .ensures) in
+    inside-on room first (omega (arith, at-if1 .if1 .left)) is (at-block-word .block-word .ensures)
+    (at-block-word2 .block-word2 .ensures) (by-break (at-enter3 .enter3 .ensures) (c .enum-told3 .given .1))
 
 visit-same-length-7 : (t : ℕ) → visit-lts.Need-same-length-7 (
   block-reads.Asked,
@@ -408,7 +549,21 @@ visit-returns-7 : (t : ℕ) → visit-lts.Need-returns-7 (
   visit-below t,
   visit.Post,
 ) (visit-at t) visit.Post
-visit-returns-7 t c = inside-on (c .before .before .before .before .before .before .before .before .before .before .before .before .before .before .before .before .before .before .before .before .before .before .before .before .pre .1 .1) (by-inside (c .before .before .before .before .before .before .before .before .before .before .before .before .before .before .before .before .before .enter .ensures) (c .before .before .before .before .before .before .before .before .before .before .before .before .before .m2 .given .1) (c .before .before .before .before .before .before .before .before .before .before .visit2 .ensures)) (omega (arith, c .before .before .before .before .before .before .before .if1 .left)) (part-is (c .before .before .before .before .before .before .before .before .before .before .before .before .before .before .before .before .before .before .before .before .before .before .before .before .pre .1 .0) (c .before .before .before .before .before .before .before .before .before .before .before .before .before .before .before .before .before .before .before .before .before .block .ensures)) (c .before .before .before .before .before .before .before .before .before .before .before .before .before .before .before .before .before .before .before .before .block-word .ensures) (c .before .before .before .before .before .before .before .before .before .before .before .before .before .before .before .before .before .before .before .block-word2 .ensures) (by-end (c .before .before .before .before .before .enter3 .ensures) (c .before .k3 .given .1))
+visit-returns-7 t c =
+    let at-enter3 = c .before .before .before .before .before in
+    let at-if1 = at-enter3 .before .before in
+    let at-visit2 = at-if1 .before .before .before in
+    let at-m2 = at-visit2 .before .before .before in
+    let at-enter = at-m2 .before .before .before .before in
+    let at-block-word2 = at-enter .before .before in
+    let at-block-word = at-block-word2 .before in
+    let at-block = at-block-word .before in
+    let start = at-block .before .before .before in
+    let room = start .pre .1 .1 in
+    let is = part-is (start .pre .1 .0) (at-block .block .ensures) in
+    let first = by-inside (at-enter .enter .ensures) (at-m2 .m2 .given .1) (at-visit2 .visit2 .ensures) in
+    inside-on room first (omega (arith, at-if1 .if1 .left)) is (at-block-word .block-word .ensures)
+    (at-block-word2 .block-word2 .ensures) (by-end (at-enter3 .enter3 .ensures) (c .before .k3 .given .1))
 
 visit-same-length-8 : (t : ℕ) → visit-lts.Need-same-length-8 (
   block-reads.Asked,
@@ -432,7 +587,24 @@ visit-returns-8 : (t : ℕ) → visit-lts.Need-returns-8 (
   visit-below t,
   visit.Post,
 ) (visit-at t) visit.Post
-visit-returns-8 t c = inside-on (c .before .before .before .before .before .before .before .before .before .before .before .before .before .before .before .before .before .before .before .before .before .before .before .before .before .before .before .before .pre .1 .1) (by-inside (c .before .before .before .before .before .before .before .before .before .before .before .before .before .before .before .before .before .before .before .before .before .enter .ensures) (c .before .before .before .before .before .before .before .before .before .before .before .before .before .before .before .before .before .m2 .given .1) (c .before .before .before .before .before .before .before .before .before .before .before .before .before .before .visit2 .ensures)) (omega (arith, c .before .before .before .before .before .before .before .before .before .before .before .if1 .left)) (part-is (c .before .before .before .before .before .before .before .before .before .before .before .before .before .before .before .before .before .before .before .before .before .before .before .before .before .before .before .before .pre .1 .0) (c .before .before .before .before .before .before .before .before .before .before .before .before .before .before .before .before .before .before .before .before .before .before .before .before .before .block .ensures)) (c .before .before .before .before .before .before .before .before .before .before .before .before .before .before .before .before .before .before .before .before .before .before .before .before .block-word .ensures) (c .before .before .before .before .before .before .before .before .before .before .before .before .before .before .before .before .before .before .before .before .before .before .before .block-word2 .ensures) (by-inside (c .before .before .before .before .before .before .before .before .before .enter3 .ensures) (c .before .before .before .before .before .k4 .given .1) (c .before .before .visit3 .ensures))
+visit-returns-8 t c =
+    let at-visit3 = c .before .before in
+    let at-k4 = at-visit3 .before .before .before in
+    let at-enter3 = at-k4 .before .before .before .before in
+    let at-if1 = at-enter3 .before .before in
+    let at-visit2 = at-if1 .before .before .before in
+    let at-m2 = at-visit2 .before .before .before in
+    let at-enter = at-m2 .before .before .before .before in
+    let at-block-word2 = at-enter .before .before in
+    let at-block-word = at-block-word2 .before in
+    let at-block = at-block-word .before in
+    let start = at-block .before .before .before in
+    let room = start .pre .1 .1 in
+    let is = part-is (start .pre .1 .0) (at-block .block .ensures) in
+    let first = by-inside (at-enter .enter .ensures) (at-m2 .m2 .given .1) (at-visit2 .visit2 .ensures) in
+    inside-on room first (omega (arith, at-if1 .if1 .left)) is (at-block-word .block-word .ensures)
+    (at-block-word2 .block-word2 .ensures)
+    (by-inside (at-enter3 .enter3 .ensures) (at-k4 .k4 .given .1) (at-visit3 .visit3 .ensures))
 
 pub +visit-spec : {M : Type 1} → statement M
 +visit-spec = close μ-visit λ t. visit-lts.spec (

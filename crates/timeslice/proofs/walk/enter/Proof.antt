@@ -6,7 +6,9 @@ use Rattle.timeslice.proofs.walk.enter.Statement.{statement}
 use Rattle.timeslice.proofs.walk.enter.Tie as tie
 
 returns : tie.Need-returns
-returns c = enter-none (c .before .before .before .before .pre .1 .some) (c .if2 .taken)
+returns c =
+    let start = c .before .before .before .before in
+    enter-none (start .pre .1 .some) (c .if2 .taken)
 
 returns-2 : tie.Need-returns-2
 returns-2 c = enter-low (c .if2 .left) (c .before .if1 .taken)
@@ -33,7 +35,13 @@ same-length : tie.Need-same-length
 same-length c = search needs
 
 returns-4 : tie.Need-returns-4
-returns-4 c = enter-ended (c .before .before .before .before .if1 .left) (c .before .before .before .if3 .left) (part-is (c .before .before .before .before .before .before .before .pre .0) (c .before .before .block .ensures)) (c .before .block-word .ensures) (c .if4 .taken)
+returns-4 c =
+    let at-block = c .before .before in
+    let at-if3 = at-block .before in
+    let at-if1 = at-if3 .before in
+    let start = at-if1 .before .before .before in
+    enter-ended (at-if1 .if1 .left) (at-if3 .if3 .left) (part-is (start .pre .0) (at-block .block .ensures))
+    (c .before .block-word .ensures) (c .if4 .taken)
 
 add-t15 : tie.Need-add-t15
 add-t15 c = search needs
@@ -42,7 +50,13 @@ same-length-2 : tie.Need-same-length-2
 same-length-2 c = search needs
 
 returns-5 : tie.Need-returns-5
-returns-5 c = enter-within (c .before .before .before .before .if1 .left) (c .before .before .before .if3 .left) (part-is (c .before .before .before .before .before .before .before .pre .0) (c .before .before .block .ensures)) (c .before .block-word .ensures) (c .if4 .left)
+returns-5 c =
+    let at-block = c .before .before in
+    let at-if3 = at-block .before in
+    let at-if1 = at-if3 .before in
+    let start = at-if1 .before .before .before in
+    enter-within (at-if1 .if1 .left) (at-if3 .if3 .left) (part-is (start .pre .0) (at-block .block .ensures))
+    (c .before .block-word .ensures) (c .if4 .left)
 
 pub enter-spec : {M : Type 1} → statement M
 enter-spec =

@@ -17,25 +17,37 @@ enum-known-m-2 : tie.Need-enum-known-m-2
 enum-known-m-2 c = search needs
 
 visit-requires : tie.Need-visit-requires
-visit-requires c κs = (c .before .before .before .before .before .before .before .before .before .before .pre .0, inside-room (c .before .before .before .before .before .before .enter .ensures) (c .before .before .before .before .before .before .before .before .before .before .pre .1) (c .before .before .m2 .given .1) (c .before .before .before .before .before .before .enter .kept .1 .1 .1 .1 .1 .1 .0))
+visit-requires c κs =
+    let at-m2 = c .before .before in
+    let at-enter = at-m2 .before .before .before .before in
+    let start = at-enter .before .before .before .before in
+    (start .pre .0, inside-room (at-enter .enter .ensures) (start .pre .1) (at-m2 .m2 .given .1) (at-enter .enter .kept .1 .1 .1 .1 .1 .1 .0))
 
 same-length : tie.Need-same-length
 same-length c = search needs
 
 returns : tie.Need-returns
-returns c = by-break (c .before .before .before .before .enter .ensures) (c .enum-told .given .1)
+returns c =
+    let at-enter = c .before .before .before .before in
+    by-break (at-enter .enter .ensures) (c .enum-told .given .1)
 
 same-length-2 : tie.Need-same-length-2
 same-length-2 c = search needs
 
 returns-2 : tie.Need-returns-2
-returns-2 c = by-end (c .before .before .before .before .before .enter .ensures) (c .before .m .given .1)
+returns-2 c =
+    let at-enter = c .before .before .before .before .before in
+    by-end (at-enter .enter .ensures) (c .before .m .given .1)
 
 same-length-3 : tie.Need-same-length-3
 same-length-3 c = search needs
 
 returns-3 : tie.Need-returns-3
-returns-3 c = by-inside (c .before .before .before .before .before .before .before .before .before .enter .ensures) (c .before .before .before .before .before .m2 .given .1) (c .before .before .visit .ensures)
+returns-3 c =
+    let at-visit = c .before .before in
+    let at-m2 = at-visit .before .before .before in
+    let at-enter = at-m2 .before .before .before .before in
+    by-inside (at-enter .enter .ensures) (at-m2 .m2 .given .1) (at-visit .visit .ensures)
 
 pub list-visit-spec : {M : Type 1} → statement M
 list-visit-spec =

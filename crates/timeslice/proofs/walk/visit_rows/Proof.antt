@@ -6,13 +6,20 @@ use Rattle.timeslice.proofs.walk.visit_rows.Statement.{statement}
 use Rattle.timeslice.proofs.walk.visit_rows.Tie as tie
 
 list-visit-requires : tie.Need-list-visit-requires
-list-visit-requires c κs = (c .before .before .before .before .pre .0, gap-list (c .before .before .before .before .pre .1))
+list-visit-requires c κs =
+    let start = c .before .before .before .before in
+    let room = start .pre .1 in
+    (start .pre .0, gap-list room)
 
 same-length : tie.Need-same-length
 same-length c = search needs
 
 returns : tie.Need-returns
-returns c = visit-stops (c .before .before .before .before .before .before .before .before .pre .1) (c .before .before .before .list-visit .ensures) (c .if1 .taken)
+returns c =
+    let at-list-visit = c .before .before .before in
+    let start = at-list-visit .before .before .before .before .before in
+    let room = start .pre .1 in
+    visit-stops room (at-list-visit .list-visit .ensures) (c .if1 .taken)
 
 cast-first : tie.Need-cast-first
 cast-first c = search needs
@@ -24,16 +31,36 @@ mul-take-listed : tie.Need-mul-take-listed
 mul-take-listed c = search needs
 
 sub-take-listed : tie.Need-sub-take-listed
-sub-take-listed c = part-start (c .before .before .before .before .before .before .before .before .before .pre .1) (c .before .before .before .before .list-visit .ensures) (omega (arith, c .before .if1 .left))
+sub-take-listed c =
+    let at-list-visit = c .before .before .before .before in
+    let start = at-list-visit .before .before .before .before .before in
+    let room = start .pre .1 in
+    part-start room (at-list-visit .list-visit .ensures) (omega (arith, c .before .if1 .left))
 
 part-take-listed-start : tie.Need-part-take-listed-start
-part-take-listed-start c = part-start (c .before .before .before .before .before .before .before .before .before .before .pre .1) (c .before .before .before .before .before .list-visit .ensures) (omega (arith, c .before .before .if1 .left))
+part-take-listed-start c =
+    let at-if1 = c .before .before in
+    let at-list-visit = at-if1 .before .before .before in
+    let start = at-list-visit .before .before .before .before .before in
+    let room = start .pre .1 in
+    part-start room (at-list-visit .list-visit .ensures) (omega (arith, at-if1 .if1 .left))
 
 part-take-listed-end : tie.Need-part-take-listed-end
-part-take-listed-end c = part-end (c .before .before .before .before .before .before .before .before .before .before .pre .1) (c .before .before .before .before .before .list-visit .ensures) (omega (arith, c .before .before .if1 .left)) (c .before .before .before .before .before .list-visit .kept .1 .1 .1 .1 .1 .1 .0)
+part-take-listed-end c =
+    let at-if1 = c .before .before in
+    let at-list-visit = at-if1 .before .before .before in
+    let start = at-list-visit .before .before .before .before .before in
+    let room = start .pre .1 in
+    part-end room (at-list-visit .list-visit .ensures) (omega (arith, at-if1 .if1 .left))
+    (at-list-visit .list-visit .kept .1 .1 .1 .1 .1 .1 .0)
 
 take-listed-requires : tie.Need-take-listed-requires
-take-listed-requires c κs = (c .before .before .before .before .before .before .before .before .before .before .before .before .pre .0, (part-numbered (c .before .before .before .before .before .before .before .before .before .before .before .before .pre .1) (c .before .before .before .before .before .before .before .list-visit .ensures) (omega (arith, c .before .before .before .before .if1 .left)), gap-rows (c .before .before .before .before .before .before .before .before .before .before .before .before .pre .1)))
+take-listed-requires c κs =
+    let at-if1 = c .before .before .before .before in
+    let at-list-visit = at-if1 .before .before .before in
+    let start = at-list-visit .before .before .before .before .before in
+    let room = start .pre .1 in
+    (start .pre .0, (part-numbered room (at-list-visit .list-visit .ensures) (omega (arith, at-if1 .if1 .left)), gap-rows room))
 
 enum-known-given : tie.Need-enum-known-given
 enum-known-given c = search needs
@@ -48,7 +75,14 @@ same-length-3 : tie.Need-same-length-3
 same-length-3 c = search needs
 
 returns-2 : tie.Need-returns-2
-returns-2 c = visit-many (c .before .before .before .before .before .before .before .before .before .before .before .before .before .before .before .before .before .pre .1) (c .before .before .before .before .before .before .before .before .before .before .before .before .list-visit .ensures) (omega (arith, c .before .before .before .before .before .before .before .before .before .if1 .left)) (c .before .before .before .before .take-listed .ensures) (c .enum-told .given .1)
+returns-2 c =
+    let at-take-listed = c .before .before .before .before in
+    let at-if1 = at-take-listed .before .before .before .before .before in
+    let at-list-visit = at-if1 .before .before .before in
+    let start = at-list-visit .before .before .before .before .before in
+    let room = start .pre .1 in
+    visit-many room (at-list-visit .list-visit .ensures) (omega (arith, at-if1 .if1 .left))
+    (at-take-listed .take-listed .ensures) (c .enum-told .given .1)
 
 same-length-4 : tie.Need-same-length-4
 same-length-4 c = search needs
@@ -57,7 +91,14 @@ same-length-5 : tie.Need-same-length-5
 same-length-5 c = search needs
 
 returns-3 : tie.Need-returns-3
-returns-3 c = visit-whole (c .before .before .before .before .before .before .before .before .before .before .before .before .before .before .before .before .before .before .pre .1) (c .before .before .before .before .before .before .before .before .before .before .before .before .before .list-visit .ensures) (omega (arith, c .before .before .before .before .before .before .before .before .before .before .if1 .left)) (c .before .before .before .before .before .take-listed .ensures) (c .before .given .given .1)
+returns-3 c =
+    let at-take-listed = c .before .before .before .before .before in
+    let at-if1 = at-take-listed .before .before .before .before .before in
+    let at-list-visit = at-if1 .before .before .before in
+    let start = at-list-visit .before .before .before .before .before in
+    let room = start .pre .1 in
+    visit-whole room (at-list-visit .list-visit .ensures) (omega (arith, at-if1 .if1 .left))
+    (at-take-listed .take-listed .ensures) (c .before .given .given .1)
 
 pub visit-rows-spec : {M : Type 1} → statement M
 visit-rows-spec =
