@@ -1,10 +1,13 @@
 pub mod Taken
 pub mod Told
+pub mod Listed
 pub mod Searching
 pub mod Answer
 pub mod TakenLaws
 pub mod ToldLaws
 pub mod VisitLaws
+pub mod ListedLaws
+pub mod VisitedLaws
 pub mod PathLaws
 pub mod SearchLaws
 pub mod AnswerLaws

@@ -188,6 +188,7 @@ module _ {s : Settings} {k : ℕ} {n : Counts} {rows list : List ℕ} (room : Re
           record {
             buffers = buffers-same (room .buffers) same-rows same-list;
             fits = y .1;
+            some = omega (arith, y .0);
             gap = y .2;
             known = omega (arith, room .known);
             blocks = omega (arith, room .blocks);

@@ -1,9 +1,11 @@
 -- Rows taken one after another are taken in one.
 use mathlib.Core.Path.{_≡_, refl, sym, ap, _∙_}
+use mathlib.Core.Bool.{Bool, true, false, _&&_}
 use mathlib.Core.List.{List, [], _∷_, _++_}
 use Prim.Native.Nat.{ℕ, zero, suc, _+_, _*_, _≤_, _<_}
 use native.Mathlib.Numerals.{add-one}
 use native.Mathlib.Omega.{arith}
+use lib.Dec.{leb}
 use lib.ListN.{length, set, length-append}
 use lib.Seq.{sets}
 use borrow.Author.Tests.{lt-ltb, le-ltb, le-leb, lt-leb}
@@ -39,16 +41,19 @@ rows-append ws given r r′ =
     rw (words-append r r′, ← e) (sets-append ws (rowLen * given) (rowWords r) (rowWords r′))
 
 -- ---- one slot
+and-false : (b : Bool) → (b && false) ≡ false
+and-false true = refl
+and-false false = refl
+
 module _ (d : ℕ) (buffer : List ℕ) (given t : ℕ) (block : List ℕ) (k : ℕ) where
-  -- a record that stands later, one that has ended, one too many,
+  -- a record that has ended, one that stands later, one too many,
+  pub ended : {to : ℕ} → to ≡ slotWord block k toWord → to ≤ t → given ≤ d → Takes d buffer given (rowOf t block k) (Rows given) buffer
+  unfolding rowOf
+  ended e h f = rw (le-ltb t _ (rw e at h), and-false (leb (slotWord block k fromWord) t)) (all {now = given} (omega arith) f refl)
+
   pub not-yet : {from : ℕ} → from ≡ slotWord block k fromWord → t < from → given ≤ d → Takes d buffer given (rowOf t block k) (Rows given) buffer
   unfolding rowOf
   not-yet e h f = rw (lt-leb _ t (rw e at h)) (all {now = given} (omega arith) f refl)
-
-  pub ended : {from to : ℕ} → from ≡ slotWord block k fromWord → from ≤ t → to ≡ slotWord block k toWord → to ≤ t → given ≤ d
-      → Takes d buffer given (rowOf t block k) (Rows given) buffer
-  unfolding rowOf
-  ended e g e′ h f = rw (le-leb _ t (rw e at g), le-ltb t _ (rw e′ at h)) (all {now = given} (omega arith) f refl)
 
   module _ {from to : ℕ} (e : from ≡ slotWord block k fromWord) (g : from ≤ t) (e′ : to ≡ slotWord block k toWord) (h : t < to) where
     pub no-room : d ≤ given → Takes d buffer given (rowOf t block k) TooMany buffer
@@ -85,7 +90,7 @@ rows-grow t block i (suc b) h = lt? b i
     (λ l. let e : i ≡ suc b = omega arith in rw e (omega arith))
     (λ l. simp length-append (omega (arith, rows-grow t block i b l)))
 
-still-many : (d : ℕ) (buffer : List ℕ) (given : ℕ) {r r′ : List Row} {after : List ℕ}
+pub still-many : (d : ℕ) (buffer : List ℕ) (given : ℕ) {r r′ : List Row} {after : List ℕ}
     → length r ≤ length r′ → Takes d buffer given r TooMany after → Takes d buffer given r′ TooMany after
 still-many d buffer given h (many k) = many (omega arith)
 

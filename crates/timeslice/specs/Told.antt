@@ -9,7 +9,7 @@ use Rattle.layout.specs.declared.settings.Settings.{Settings}
 use Rattle.layout.specs.declared.head.Head.{Head}
 use Rattle.layout.specs.Sizes.{rowLen}
 use Rattle.layout.specs.Address.{Numbered}
-use Rattle.layout.specs.Fields.{closedWord, upWord, leftWord, childWord}
+use Rattle.layout.specs.Fields.{upWord}
 use Rattle.layout.specs.Head.{headOf}
 use Rattle.layout.specs.HeadLaws.{SoundHead}
 use Rattle.layout.specs.Parts.{blockWord}
@@ -20,9 +20,6 @@ use Rattle.calls.specs.Step.{rowWords}
 use Rattle.timeslice.specs.declared.Counts.{Counts}
 use Rattle.timeslice.specs.declared.walk.Walked.{Walked}
 use Rattle.timeslice.specs.declared.walk.Walked.the-variants.{Done, Unsound}
-use Rattle.timeslice.specs.declared.walk.Inside.{Inside}
-use Rattle.timeslice.specs.declared.walk.Entered.{Entered}
-use Rattle.timeslice.specs.declared.walk.Entered.the-variants.{Within, Ended, TooMany}
 use Rattle.timeslice.specs.declared.walk.Step.{Step}
 use Rattle.timeslice.specs.declared.walk.Climbed.{Climbed}
 use Rattle.timeslice.specs.declared.walk.Climbed.the-variants.{On, Unsound as NotOn}
@@ -52,23 +49,10 @@ pub record PathTold (s : Settings) (t : ℕ) (R : Reader) (number : ℕ) (rows l
     : Type 0 where
   pub told : (f : ℕ) → number < f → Told (s .tags) rows list n (path (s .block) t R f number) a rows′ list′
 
--- ---- the parts of a visit and of a path
+-- ---- the parts of a path
 -- a block with its rows
 abbrev pub blockWalk : Settings → ℕ → List ℕ → ℕ → Walk
 blockWalk s t block number = found (rowsOf (s .block) t block) (number ∷ [])
-
--- a visited block: listed, and its rows taken if it closes after t
-pub data Enters (s : Settings) (t : ℕ) (block rows list : List ℕ) (n : Counts) (number : ℕ) : Entered → List ℕ → List ℕ → Type 0 where
-  within : {i : Inside} {rows′ list′ : List ℕ} → t < blockWord block closedWord
-      → i .child ≡ blockWord block childWord → i .left ≡ blockWord block leftWord
-      → Told (s .tags) rows list n (blockWalk s t block number) (Done (i .counts)) rows′ list′
-      → Enters s t block rows list n number (Within i) rows′ list′
-  ended : {m : Counts} {rows′ list′ : List ℕ} → blockWord block closedWord ≤ t
-      → Told (s .tags) rows list n (found [] (number ∷ [])) (Done m) rows′ list′
-      → Enters s t block rows list n number (Ended m) rows′ list′
-  many : {rows′ list′ : List ℕ} → t < blockWord block closedWord
-      → Told (s .tags) rows list n (blockWalk s t block number) Unsound rows′ list′
-      → Enters s t block rows list n number TooMany rows′ list′
 
 -- the up of a block, as a reader hands it out
 abbrev pub upOf : Reader → ℕ → ℕ
@@ -91,6 +75,11 @@ pub record Readable (ws : List ℕ) (h : Head) : Type 0 where
   pub sound : SoundHead h
   pub held : Held (h .settings) ws
 
+-- the same of the blocks alone: s are the settings in the head
+pub record Blocks (ws : List ℕ) (s : Settings) : Type 0 where
+  pub is : s ≡ headOf ws .settings
+  pub held : Held s ws
+
 -- both buffers are long enough: refusal 11 does not apply
 pub record Buffers (s : Settings) (rows list : List ℕ) : Type 0 where
   pub long-rows : rowLen * s .tags ≤ length rows
@@ -102,10 +91,11 @@ pub record Space (s : Settings) (n : Counts) (rows list : List ℕ) : Type 0 whe
   pub fits : n .rows ≤ s .tags
   pub block : n .blocks < s .blocks
 
--- room for a visit between two numbers: it lists fewer blocks than their gap
+-- room for a visit between two numbers, behind the block that it starts from: it lists fewer blocks than their gap
 pub record Gap (s : Settings) (lower upper : ℕ) (n : Counts) (rows list : List ℕ) : Type 0 where
   pub buffers : Buffers s rows list
   pub fits : n .rows ≤ s .tags
+  pub some : 0 < n .blocks
   pub gap : lower < upper
   pub known : upper ≤ s .blocks + 1
   pub blocks : n .blocks + upper ≤ s .blocks + 1 + lower

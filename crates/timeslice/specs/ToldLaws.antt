@@ -1,13 +1,11 @@
 -- Walks told one after another are told as one walk; a walk that stops, stops the whole. And a block listed, its rows taken, is told.
 use mathlib.Core.Path.{_≡_, refl, sym, _∙_}
 use mathlib.Core.List.{List, [], _∷_, _++_}
-use Prim.Native.Nat.{ℕ, _+_, _≤_, _<_}
+use Prim.Native.Nat.{ℕ, _+_, _≤_}
 use native.Mathlib.Omega.{arith}
 use lib.ListN.{length, set, length-append}
 use Rattle.layout.specs.declared.settings.Settings.{Settings}
 use Rattle.layout.specs.declared.head.Head.{Head}
-use Rattle.layout.specs.Fields.{closedWord, leftWord, childWord}
-use Rattle.layout.specs.Parts.{blockWord}
 use Rattle.layout.specs.PartsLaws.{BlockPart}
 use Rattle.calls.specs.Calls.{Row}
 use Rattle.calls.specs.Walk.{Walk, unsound, found, andThen}
@@ -17,10 +15,9 @@ use Rattle.timeslice.specs.declared.rows.Took.{Took}
 use Rattle.timeslice.specs.declared.rows.Took.the-variants.{Rows, TooMany as MoreThan}
 use Rattle.timeslice.specs.declared.walk.Walked.{Walked}
 use Rattle.timeslice.specs.declared.walk.Walked.the-variants.{Done, Unsound}
-use Rattle.timeslice.specs.declared.walk.Entered.the-variants.{Within, Ended, TooMany}
 use Rattle.timeslice.specs.Taken.{Takes, all, many as more}
 use Rattle.timeslice.specs.TakenLaws.{sets-append, rows-append}
-use Rattle.timeslice.specs.Told.{Filled, Told, done, over, bad, blockWalk, Enters, within, ended, many, Readable, Buffers}
+use Rattle.timeslice.specs.Told.{Filled, Told, done, over, bad, Readable, Blocks, Buffers}
 
 -- ---- one walk after another
 module _ (d : ℕ) (rows list : List ℕ) (n : Counts) where
@@ -74,7 +71,7 @@ module _ {d : ℕ} {rows list : List ℕ} {n : Counts} {number : ℕ} where
       → Told d rows list n (found r (number ∷ [])) Unsound rows′ list′
   listed-over {r} (more h) = over {r = r} h
 
-  -- its rows taken, or too many,
+  -- its rows taken, or too many
   module _ {r : List Row} {x : Took} {rows′ : List ℕ} (taken : Takes d rows (n .rows) r x rows′) where
     pub listed-all : {given : ℕ} → x ≡ Rows given
         → Told d rows list n (found r (number ∷ [])) (Done (oneMore given n)) rows′ (set list (n .blocks) number)
@@ -83,36 +80,19 @@ module _ {d : ℕ} {rows list : List ℕ} {n : Counts} {number : ℕ} where
     pub listed-many : {list′ : List ℕ} → x ≡ MoreThan → Told d rows list n (found r (number ∷ [])) Unsound rows′ list′
     listed-many e = listed-over (rw e at taken)
 
-  -- or alone.
-  pub listed-alone : n .rows ≤ d
-      → Told d rows list n (found [] (number ∷ [])) (Done (oneMore (n .rows) n)) rows (set list (n .blocks) number)
-  listed-alone h = listed-filled (all {now = n .rows} (omega arith) h refl)
-
 -- ---- the block that the code is handed is the reader's
+pub blocks-of : {ws : List ℕ} {h : Head} → Readable ws h → Blocks ws (h .settings)
+blocks-of r = record { is = rw (r .is); held = r .held }
+
+pub part-is : {ws : List ℕ} {s : Settings} {number : ℕ} {block : List ℕ} → Blocks ws s → BlockPart s ws number block → block ≡ reader ws .block number
+unfolding reader
+part-is r p = p .is ∙ rw (r .is)
+
 pub block-is : {ws : List ℕ} {h : Head} {number : ℕ} {block : List ℕ} → Readable ws h → BlockPart (h .settings) ws number block
     → block ≡ reader ws .block number
-unfolding reader
-block-is r p = p .is ∙ rw (r .is)
+block-is r p = part-is (blocks-of r) p
 
 -- buffers that a call was lent are as long as before
 pub buffers-same : {s : Settings} {rows list rows₁ list₁ : List ℕ} → Buffers s rows list → length rows₁ ≡ length rows → length list₁ ≡ length list
     → Buffers s rows₁ list₁
 buffers-same b e f = record { long-rows = omega (arith, b .long-rows); long-list = omega (arith, b .long-list) }
-
--- ---- a visited block
-module _ {s : Settings} {t : ℕ} {rows list : List ℕ} {n : Counts} {number : ℕ} {block it : List ℕ} (is : block ≡ it) {closed : ℕ}
-    (e : closed ≡ blockWord block closedWord) where
-  -- It closed by t,
-  pub enter-ended : closed ≤ t → n .rows ≤ s .tags
-      → Enters s t it rows list n number (Ended (oneMore (n .rows) n)) rows (set list (n .blocks) number)
-  enter-ended g f = rw (← is) (ended (rw e at g) (listed-alone f))
-
-  -- or closes after t, its rows being taken or too many.
-  module _ (g : t < closed) {a : Walked} {rows′ list′ : List ℕ} (told : Told (s .tags) rows list n (blockWalk s t block number) a rows′ list′) where
-    pub enter-many : a ≡ Unsound → Enters s t it rows list n number TooMany rows′ list′
-    enter-many q = rw (← is) (many (rw e at g) (rw q at told))
-
-    pub enter-within : {m : Counts} → a ≡ Done m → {child left : ℕ} → child ≡ blockWord block childWord → left ≡ blockWord block leftWord
-        → Enters s t it rows list n number (Within (record { child = child; left = left; counts = m })) rows′ list′
-    enter-within {m} q {child} {left} x y =
-        rw (← is) (within {i = record { child = child; left = left; counts = m }} (rw e at g) x y (rw q at told))

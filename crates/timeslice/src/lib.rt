@@ -1,6 +1,7 @@
 // The look-back: what stood at a past second, read from the store's own words (document 01, "The look-back").
 mod index;
 mod rows;
+mod visited;
 mod walk;
 
 use index::Searched;

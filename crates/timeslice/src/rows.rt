@@ -12,24 +12,26 @@ pub enum Took {
     TooMany,
 }
 
-// The row of slot k, if its record stands at t.
+// The row of slot k, if its record stands at t. Most that do not stand have ended, so the end is tested first.
 fn take_row(block: &[u32], k: u32, t: u32, s: Settings, rows: &mut [u32], given: u32) -> Took
     requires { ⌜ k < s .block ⌝ }
     requires { ⌜ RowRoom s (now block) given (now rows) ⌝ }
     ensures { λ r. ⌜ Takes (s .tags) (now (rows .entry)) given (rowOf t (now (block .entry)) k) r (now (rows .exit)) ⌝ }
 {
-    if t < parts::slot_word(block, k, fields::FROM) {
+    if parts::slot_word(block, k, fields::TO) <= t {
         return Took::Rows(given);
     }
-    if parts::slot_word(block, k, fields::TO) <= t {
+    if t < parts::slot_word(block, k, fields::FROM) {
         return Took::Rows(given);
     }
     if s.tags <= given {
         return Took::TooMany;
     }
     let at = layout::ROW_LEN * given as usize;
-    rows[at] = parts::slot_word(block, k, fields::TAG);
-    rows[at + 1] = parts::slot_word(block, k, fields::READING);
+    let tag = parts::slot_word(block, k, fields::TAG);
+    let reading = parts::slot_word(block, k, fields::READING);
+    rows[at] = tag;
+    rows[at + 1] = reading;
     Took::Rows(given + 1)
 }
 

@@ -2,6 +2,7 @@
 use crate::Counts;
 use crate::rows;
 use crate::rows::Took;
+use crate::visited;
 use layout::fields;
 use layout::head::Head;
 use layout::parts;
@@ -11,7 +12,8 @@ ghost use Rattle.layout.specs.Address.{Numbered};
 ghost use Rattle.calls.specs.Walk.{neighbour as neighbourOf};
 ghost use Rattle.calls.specs.Step.{reader};
 ghost use Rattle.timeslice.specs.Taken.{RowRoom};
-ghost use Rattle.timeslice.specs.Told.{Told, VisitTold, PathTold, blockWalk, Enters, Climbs, Readable, Space, Gap, Reach, Under};
+ghost use Rattle.timeslice.specs.Told.{Told, VisitTold, PathTold, blockWalk, Climbs, Readable, Blocks, Space, Gap, Reach, Under};
+ghost use Rattle.timeslice.specs.Listed.{Enters, VisitListed, InsideListed, ListRoom, InsideRoom};
 
 // What a part of the walk comes to: all that is counted so far, or a link that is unsound or more rows than tags.
 pub enum Walked {
@@ -19,18 +21,13 @@ pub enum Walked {
     Unsound,
 }
 
-// A visited block that closes after t: where the visit goes on, and what is counted so far.
-pub struct Inside {
-    pub child: u32,
-    pub left: u32,
-    pub counts: Counts,
-}
-
+// What a link comes to, with the blocks listed so far.
 pub enum Entered {
-    Within(Inside),
-    // it closed at or before t
-    Ended(Counts),
-    TooMany,
+    // it leads to a block that closes after t
+    Within(u32),
+    // there is no block, or it closed at or before t
+    Ended(u32),
+    Unsound,
 }
 
 // A path block: its up, its left neighbour, and what is counted with its rows.
@@ -72,46 +69,106 @@ fn list_block(
     })
 }
 
-// A visited block is listed; its rows are taken if it closes after t.
+// A link from a listed block: 0, which ends the visit, or a block strictly between lower and upper. It is listed, and the visit goes on inside it if it
+// closes after t.
 fn enter(
     store: &[u32],
-    h: Head,
+    s: Settings,
+    lower: u32,
+    upper: u32,
     number: u32,
     t: u32,
-    rows: &mut [u32],
     list: &mut [u32],
-    n: Counts,
+    listed: u32,
 ) -> Entered
-    requires { ⌜ Readable (now store) h ⌝ }
-    requires { ⌜ Numbered (h .settings) number ⌝ }
-    requires { ⌜ Space (h .settings) n (now rows) (now list) ⌝ }
-    ensures { λ r. ⌜ Enters (h .settings) t (reader (now (store .entry)) .block number) (now (rows .entry)) (now (list .entry)) n number
-        r (now (rows .exit)) (now (list .exit)) ⌝ }
+    requires { ⌜ Blocks (now store) s ⌝ }
+    requires { ⌜ ListRoom s lower upper listed (now list) ⌝ }
+    ensures { λ r. ⌜ Enters s t (reader (now (store .entry))) lower upper number (now (list .entry)) listed r (now (list .exit)) ⌝ }
 {
-    let block = parts::block(store, h.settings, number);
-    if parts::block_word(block, fields::CLOSED) <= t {
-        let at = n.blocks as usize;
-        list[at] = number;
-        return Entered::Ended(Counts {
-            rows: n.rows,
-            pages: n.pages,
-            blocks: n.blocks + 1,
-        });
+    if number <= lower {
+        if number == 0 {
+            return Entered::Ended(listed);
+        }
+        return Entered::Unsound;
     }
-    let Walked::Done(m) = list_block(block, number, t, h.settings, rows, list, n) else {
-        return Entered::TooMany;
-    };
-    Entered::Within(Inside {
-        child: parts::block_word(block, fields::CHILD),
-        left: parts::block_word(block, fields::LEFT),
-        counts: m,
-    })
+    if upper <= number {
+        return Entered::Unsound;
+    }
+    let at = listed as usize;
+    list[at] = number;
+    let block = parts::block(store, s, number);
+    if parts::block_word(block, fields::CLOSED) <= t {
+        return Entered::Ended(listed + 1);
+    }
+    Entered::Within(listed + 1)
 }
 
-// A visit of a block, strictly between lower and upper: the gap of the two falls at each visit inside.
+// The visit inside a listed block that closes after t: of its last child, then of its left. The gap of the two numbers falls at each.
+// It answers how many blocks are listed then, 0 if a link is unsound.
 fn visit(
     store: &[u32],
-    h: Head,
+    s: Settings,
+    lower: u32,
+    upper: u32,
+    number: u32,
+    t: u32,
+    list: &mut [u32],
+    listed: u32,
+) -> u32
+    requires { ⌜ Blocks (now store) s ⌝ }
+    requires { ⌜ InsideRoom s lower upper number listed (now list) ⌝ }
+    ensures { λ r. ⌜ InsideListed s t (reader (now (store .entry))) lower upper number (now (list .entry)) listed r (now (list .exit)) ⌝ }
+{
+    let block = parts::block(store, s, number);
+    let child = parts::block_word(block, fields::CHILD);
+    let left = parts::block_word(block, fields::LEFT);
+    match enter(store, s, number, upper, child, t, list, listed) {
+        Entered::Unsound => 0,
+        Entered::Ended(m) => match enter(store, s, lower, number, left, t, list, m) {
+            Entered::Unsound => 0,
+            Entered::Ended(k) => k,
+            Entered::Within(k) => visit(store, s, lower, number, left, t, list, k),
+        },
+        Entered::Within(m) => {
+            let after = visit(store, s, number, upper, child, t, list, m);
+            if after == 0 {
+                return 0;
+            }
+            match enter(store, s, lower, number, left, t, list, after) {
+                Entered::Unsound => 0,
+                Entered::Ended(k) => k,
+                Entered::Within(k) => visit(store, s, lower, number, left, t, list, k),
+            }
+        }
+    }
+}
+
+// The blocks of a whole visit, listed.
+fn list_visit(
+    store: &[u32],
+    s: Settings,
+    lower: u32,
+    upper: u32,
+    number: u32,
+    t: u32,
+    list: &mut [u32],
+    listed: u32,
+) -> u32
+    requires { ⌜ Blocks (now store) s ⌝ }
+    requires { ⌜ ListRoom s lower upper listed (now list) ⌝ }
+    ensures { λ r. ⌜ VisitListed s t (reader (now (store .entry))) lower upper number (now (list .entry)) listed r (now (list .exit)) ⌝ }
+{
+    match enter(store, s, lower, upper, number, t, list, listed) {
+        Entered::Unsound => 0,
+        Entered::Ended(m) => m,
+        Entered::Within(m) => visit(store, s, lower, upper, number, t, list, m),
+    }
+}
+
+// A visit: its blocks are listed, then the rows of those listed are taken.
+fn visit_rows(
+    store: &[u32],
+    s: Settings,
     lower: u32,
     upper: u32,
     number: u32,
@@ -120,38 +177,26 @@ fn visit(
     list: &mut [u32],
     n: Counts,
 ) -> Walked
-    requires { ⌜ Readable (now store) h ⌝ }
-    requires { ⌜ Gap (h .settings) lower upper n (now rows) (now list) ⌝ }
-    ensures { λ r. ⌜ VisitTold (h .settings) t (reader (now (store .entry))) lower upper number (now (rows .entry)) (now (list .entry)) n
+    requires { ⌜ Blocks (now store) s ⌝ }
+    requires { ⌜ Gap s lower upper n (now rows) (now list) ⌝ }
+    ensures { λ r. ⌜ VisitTold s t (reader (now (store .entry))) lower upper number (now (rows .entry)) (now (list .entry)) n
         r (now (rows .exit)) (now (list .exit)) ⌝ }
 {
-    if number == 0 {
-        return Walked::Done(n);
-    }
-    if number <= lower {
+    let blocks = list_visit(store, s, lower, upper, number, t, list, n.blocks);
+    if blocks == 0 {
         return Walked::Unsound;
     }
-    if upper <= number {
+    let first = n.blocks as usize;
+    let end = blocks as usize;
+    let Took::Rows(given) = visited::take_listed(store, s, &list[first..end], t, rows, n.rows)
+    else {
         return Walked::Unsound;
-    }
-    match enter(store, h, number, t, rows, list, n) {
-        Entered::TooMany => Walked::Unsound,
-        Entered::Ended(m) => Walked::Done(m),
-        Entered::Within(e) => match visit(
-            store,
-            h,
-            number,
-            upper,
-            e.child,
-            t,
-            rows,
-            list,
-            e.counts,
-        ) {
-            Walked::Unsound => Walked::Unsound,
-            Walked::Done(m) => visit(store, h, lower, number, e.left, t, rows, list, m),
-        },
-    }
+    };
+    Walked::Done(Counts {
+        rows: given,
+        pages: n.pages,
+        blocks,
+    })
 }
 
 // The left neighbour of a path block: its own left if it is closed, else its up's last child.
@@ -224,8 +269,17 @@ pub(crate) fn path(
         let Climbed::On(step) = climb(store, h, at, t, rows, list, counts) else {
             return Walked::Unsound;
         };
-        let Walked::Done(m) = visit(store, h, step.up, at, step.next, t, rows, list, step.counts)
-        else {
+        let Walked::Done(m) = visit_rows(
+            store,
+            h.settings,
+            step.up,
+            at,
+            step.next,
+            t,
+            rows,
+            list,
+            step.counts,
+        ) else {
             return Walked::Unsound;
         };
         at = step.up;

@@ -10,18 +10,17 @@ slot-word-requires : tie.Need-slot-word-requires
 slot-word-requires c κs = search needs
 
 returns : tie.Need-returns
-returns c = not-yet _ _ _ _ _ _ (c .before .slot-word .ensures) (c .if1 .taken) (c .before .before .before .before .pre .1 .fits)
+returns c =
+    let start = c .before .before .before .before in
+    ended _ _ _ _ _ _ (c .before .slot-word .ensures) (c .if1 .taken) (start .pre .1 .fits)
 
 slot-word-requires-2 : tie.Need-slot-word-requires-2
 slot-word-requires-2 c κs = search needs
 
 returns-2 : tie.Need-returns-2
 returns-2 c =
-    let at-if1 = c .before .before in
-    let at-slot-word = at-if1 .before in
-    let start = at-slot-word .before .before .before in
-    ended _ _ _ _ _ _ (at-slot-word .slot-word .ensures) (at-if1 .if1 .left) (c .before .slot-word2 .ensures) (c .if2 .taken)
-    (start .pre .1 .fits)
+    let start = c .before .before .before .before .before .before in
+    not-yet _ _ _ _ _ _ (c .before .slot-word2 .ensures) (c .if2 .taken) (start .pre .1 .fits)
 
 returns-3 : tie.Need-returns-3
 returns-3 c =
@@ -29,8 +28,8 @@ returns-3 c =
     let at-slot-word2 = at-if2 .before in
     let at-if1 = at-slot-word2 .before in
     let at-slot-word = at-if1 .before in
-    no-room _ _ _ _ _ _ (at-slot-word .slot-word .ensures) (at-if1 .if1 .left) (at-slot-word2 .slot-word2 .ensures)
-    (at-if2 .if2 .left) (c .if3 .taken)
+    no-room _ _ _ _ _ _ (at-slot-word2 .slot-word2 .ensures) (at-if2 .if2 .left) (at-slot-word .slot-word .ensures)
+    (at-if1 .if1 .left) (c .if3 .taken)
 
 mul-at : tie.Need-mul-at
 mul-at c = search needs
@@ -38,14 +37,14 @@ mul-at c = search needs
 slot-word-requires-3 : tie.Need-slot-word-requires-3
 slot-word-requires-3 c κs = search needs
 
+slot-word-requires-4 : tie.Need-slot-word-requires-4
+slot-word-requires-4 c κs = search needs
+
 mul-rows : tie.Need-mul-rows
 mul-rows c = search needs
 
 slice-write-rows : tie.Need-slice-write-rows
 slice-write-rows c = search needs
-
-slot-word-requires-4 : tie.Need-slot-word-requires-4
-slot-word-requires-4 c κs = search needs
 
 add-rows : tie.Need-add-rows
 add-rows c = search needs
@@ -56,8 +55,8 @@ mul-rows-2 c = search needs
 slice-write-rows-2 : tie.Need-slice-write-rows-2
 slice-write-rows-2 c = simp length-set (omega arith)
 
-add-t8 : tie.Need-add-t8
-add-t8 c = search needs
+add-t10 : tie.Need-add-t10
+add-t10 c = search needs
 
 same-length : tie.Need-same-length
 same-length c = search needs
@@ -69,8 +68,8 @@ returns-4 c =
     let at-slot-word2 = at-if2 .before in
     let at-if1 = at-slot-word2 .before in
     let at-slot-word = at-if1 .before in
-    one-row _ _ _ _ _ _ (at-slot-word .slot-word .ensures) (at-if1 .if1 .left) (at-slot-word2 .slot-word2 .ensures)
-    (at-if2 .if2 .left) (at-if3 .if3 .left) (c .before .slot-word3 .ensures) (c .slot-word4 .ensures)
+    one-row _ _ _ _ _ _ (at-slot-word2 .slot-word2 .ensures) (at-if2 .if2 .left) (at-slot-word .slot-word .ensures)
+    (at-if1 .if1 .left) (at-if3 .if3 .left) (c .before .slot-word3 .ensures) (c .slot-word4 .ensures)
 
 pub take-row-spec : {M : Type 1} → statement M
 take-row-spec =
@@ -83,12 +82,12 @@ take-row-spec =
     returns-3
     mul-at
     slot-word-requires-3
+    slot-word-requires-4
     mul-rows
     slice-write-rows
-    slot-word-requires-4
     add-rows
     mul-rows-2
     slice-write-rows-2
-    add-t8
+    add-t10
     same-length
     returns-4)

@@ -1,70 +1,90 @@
 -- `walk::visit` meets its contract: each way out is a law of visits. The measure is the gap of the two numbers.
+use mathlib.Core.Path.{refl, _∙_}
 use Prim.Native.Nat.{_-_}
 use native.Mathlib.Omega.{arith}
 use borrow.Author.Needs.{needs}
-use Rattle.timeslice.specs.VisitLaws.{visit-none, visit-low, visit-high, visit-ended, visit-many, visit-stopped, visit-on, gap-numbered, gap-space, room-child, room-left}
+use Rattle.timeslice.specs.ToldLaws.{part-is}
+use Rattle.timeslice.specs.ListedLaws.{by-end, some-listed, by-break, by-inside, inside-room, inside-numbered, child-room, left-room, inside-stops, inside-on}
 use Prim.Native.Nat.{ℕ, _<_}
 use borrow.Fn.Kinds.{In}
 use borrow.Fn.PlainCycle.{Measures, is, falls, and}
 use Rattle.timeslice.proofs.walk.visit.Reads as visit
 use Rattle.timeslice.proofs.walk.visit.Kinds as visit-kinds
 use Rattle.timeslice.proofs.walk.+visit.Lts-visit as visit-lts
+use Rattle.layout.proofs.parts.block.Reads as block-reads
+use Rattle.layout.proofs.parts.block_word.Reads as block-word-reads
 use Rattle.timeslice.proofs.walk.enter.Reads as enter-reads
 use Rattle.timeslice.proofs.walk.+visit.{statement}
 use Rattle.timeslice.proofs.walk.+visit.Tie.{close}
 
-abbrev μ-visit : Measures 3 visit-kinds.ps ℕ
+abbrev μ-visit : Measures 2 visit-kinds.ps ℕ
 μ-visit κs a = a .1 .1 .1 .0 - a .1 .1 .0
 
-abbrev visit-at : ℕ → In 3 visit-kinds.ps
-visit-at t = and 3 visit-kinds.ps (is 3 visit-kinds.ps μ-visit t) visit.Pre
+abbrev visit-at : ℕ → In 2 visit-kinds.ps
+visit-at t = and 2 visit-kinds.ps (is 2 visit-kinds.ps μ-visit t) visit.Pre
 
-abbrev visit-below : ℕ → In 3 visit-kinds.ps
-visit-below t = and 3 visit-kinds.ps (falls 3 visit-kinds.ps _<_ μ-visit t) visit.Pre
+abbrev visit-below : ℕ → In 2 visit-kinds.ps
+visit-below t = and 2 visit-kinds.ps (falls 2 visit-kinds.ps _<_ μ-visit t) visit.Pre
 
-visit-returns : (t : ℕ) → visit-lts.Need-returns (
+visit-block-requires : (t : ℕ) → visit-lts.Need-block-requires (
+  block-reads.Asked,
+  block-reads.Learnt,
+  block-word-reads.Asked,
+  block-word-reads.Learnt,
   enter-reads.Asked,
   enter-reads.Learnt,
   visit-below t,
   visit.Post,
 ) (visit-at t) visit.Post
-visit-returns t c = visit-none (c .before .before .before .before .pre .1 .1 .fits) (c .if1 .taken)
+visit-block-requires t c κs =
+    let start = c .before .before in
+    let room = start .pre .1 .1 in
+    (inside-numbered room, start .pre .1 .0 .held)
 
-visit-returns-2 : (t : ℕ) → visit-lts.Need-returns-2 (
+visit-block-word-requires : (t : ℕ) → visit-lts.Need-block-word-requires (
+  block-reads.Asked,
+  block-reads.Learnt,
+  block-word-reads.Asked,
+  block-word-reads.Learnt,
   enter-reads.Asked,
   enter-reads.Learnt,
   visit-below t,
   visit.Post,
 ) (visit-at t) visit.Post
-visit-returns-2 t c = visit-low (c .before .if1 .left) (c .if2 .taken)
+visit-block-word-requires t c κs = search needs
 
-visit-returns-3 : (t : ℕ) → visit-lts.Need-returns-3 (
+visit-block-word-requires-2 : (t : ℕ) → visit-lts.Need-block-word-requires-2 (
+  block-reads.Asked,
+  block-reads.Learnt,
+  block-word-reads.Asked,
+  block-word-reads.Learnt,
   enter-reads.Asked,
   enter-reads.Learnt,
   visit-below t,
   visit.Post,
 ) (visit-at t) visit.Post
-visit-returns-3 t c = visit-high (c .before .before .if1 .left) (c .before .if2 .left) (c .if3 .taken)
+visit-block-word-requires-2 t c κs = search needs
 
 visit-enter-requires : (t : ℕ) → visit-lts.Need-enter-requires (
+  block-reads.Asked,
+  block-reads.Learnt,
+  block-word-reads.Asked,
+  block-word-reads.Learnt,
   enter-reads.Asked,
   enter-reads.Learnt,
   visit-below t,
   visit.Post,
 ) (visit-at t) visit.Post
 visit-enter-requires t c κs =
-    let at-if3 = c .before .before in
-    let at-if2 = at-if3 .before in
-    let start = at-if2 .before .before .before .before .before in (
-      start .pre .1 .0,
-      (
-        gap-numbered (start .pre .1 .1) (at-if2 .if2 .left) (at-if3 .if3 .left),
-        gap-space (start .pre .1 .1)
-            (at-if2 .if2 .left) (at-if3 .if3 .left),
-      ),
-    )
+    let start = c .before .before .before .before .before .before in
+    let room = start .pre .1 .1 in
+    (start .pre .1 .0, child-room room)
 
 visit-enum-told : (t : ℕ) → visit-lts.Need-enum-told (
+  block-reads.Asked,
+  block-reads.Learnt,
+  block-word-reads.Asked,
+  block-word-reads.Learnt,
   enter-reads.Asked,
   enter-reads.Learnt,
   visit-below t,
@@ -73,6 +93,10 @@ visit-enum-told : (t : ℕ) → visit-lts.Need-enum-told (
 visit-enum-told t c = search needs
 
 visit-enum-known-m : (t : ℕ) → visit-lts.Need-enum-known-m (
+  block-reads.Asked,
+  block-reads.Learnt,
+  block-word-reads.Asked,
+  block-word-reads.Learnt,
   enter-reads.Asked,
   enter-reads.Learnt,
   visit-below t,
@@ -80,36 +104,32 @@ visit-enum-known-m : (t : ℕ) → visit-lts.Need-enum-known-m (
 ) (visit-at t) visit.Post
 visit-enum-known-m t c = search needs
 
-visit-enum-known-e : (t : ℕ) → visit-lts.Need-enum-known-e (
+visit-enter-requires-2 : (t : ℕ) → visit-lts.Need-enter-requires-2 (
+  block-reads.Asked,
+  block-reads.Learnt,
+  block-word-reads.Asked,
+  block-word-reads.Learnt,
   enter-reads.Asked,
   enter-reads.Learnt,
   visit-below t,
   visit.Post,
 ) (visit-at t) visit.Post
-visit-enum-known-e t c = search needs
-
-visit-visit-requires : (t : ℕ) → visit-lts.Need-visit-requires (
-  enter-reads.Asked,
-  enter-reads.Learnt,
-  visit-below t,
-  visit.Post,
-) (visit-at t) visit.Post
-visit-visit-requires t c κs =
-    let at-e = c .before .before .before in
-    let at-enter = at-e .before .before .before .before .before .before in
-    let at-if3 = at-enter .before .before .before in
-    let at-if2 = at-if3 .before in
-    let start = at-if2 .before .before .before .before .before in (
-      omega arith,
-      (
-        start .pre .1 .0,
-        room-child (start .pre .1 .1) (at-if2 .if2 .left) (at-if3 .if3 .left)
-            (at-enter .enter .ensures) (at-e .e .given .1) (at-enter .enter .kept .1 .1 .1 .1 .0)
-            (at-enter .enter .kept .1 .1 .1 .1 .1 .0),
-      ),
+visit-enter-requires-2 t c κs =
+    let at-m = c .before .before in
+    let at-enter = at-m .before .before .before .before in
+    let start = at-enter .before .before .before .before .before .before .before in
+    let room = start .pre .1 .1 in
+    let first = by-end (at-enter .enter .ensures) (at-m .m .given .1) in (
+      start .pre .1 .0,
+      left-room room first (some-listed (at-enter .enter .ensures) (at-m .m .given .1))
+          (at-enter .enter .kept .1 .1 .1 .1 .1 .1 .0),
     )
 
 visit-enum-told-2 : (t : ℕ) → visit-lts.Need-enum-told-2 (
+  block-reads.Asked,
+  block-reads.Learnt,
+  block-word-reads.Asked,
+  block-word-reads.Learnt,
   enter-reads.Asked,
   enter-reads.Learnt,
   visit-below t,
@@ -117,7 +137,63 @@ visit-enum-told-2 : (t : ℕ) → visit-lts.Need-enum-told-2 (
 ) (visit-at t) visit.Post
 visit-enum-told-2 t c = search needs
 
+visit-enum-known-k : (t : ℕ) → visit-lts.Need-enum-known-k (
+  block-reads.Asked,
+  block-reads.Learnt,
+  block-word-reads.Asked,
+  block-word-reads.Learnt,
+  enter-reads.Asked,
+  enter-reads.Learnt,
+  visit-below t,
+  visit.Post,
+) (visit-at t) visit.Post
+visit-enum-known-k t c = search needs
+
+visit-enum-known-k-2 : (t : ℕ) → visit-lts.Need-enum-known-k-2 (
+  block-reads.Asked,
+  block-reads.Learnt,
+  block-word-reads.Asked,
+  block-word-reads.Learnt,
+  enter-reads.Asked,
+  enter-reads.Learnt,
+  visit-below t,
+  visit.Post,
+) (visit-at t) visit.Post
+visit-enum-known-k-2 t c = search needs
+
+visit-visit-requires : (t : ℕ) → visit-lts.Need-visit-requires (
+  block-reads.Asked,
+  block-reads.Learnt,
+  block-word-reads.Asked,
+  block-word-reads.Learnt,
+  enter-reads.Asked,
+  enter-reads.Learnt,
+  visit-below t,
+  visit.Post,
+) (visit-at t) visit.Post
+visit-visit-requires t c κs =
+    let at-k2 = c .before .before in
+    let at-enter2 = at-k2 .before .before .before .before in
+    let at-m = at-enter2 .before .before .before in
+    let at-enter = at-m .before .before .before .before in
+    let start = at-enter .before .before .before .before .before .before .before in
+    let room = start .pre .1 .1 in
+    let first = by-end (at-enter .enter .ensures) (at-m .m .given .1) in
+    let left = left-room room first (some-listed (at-enter .enter .ensures) (at-m .m .given .1))
+    (at-enter .enter .kept .1 .1 .1 .1 .1 .1 .0) in (
+      omega (arith, start .pre .0, room .low, room .high),
+      (
+        start .pre .1 .0,
+        inside-room (at-enter2 .enter2 .ensures) left (at-k2 .k2 .given .1)
+            (at-enter2 .enter2 .kept .1 .1 .1 .1 .1 .1 .0),
+      ),
+    )
+
 visit-enum-known-m-2 : (t : ℕ) → visit-lts.Need-enum-known-m-2 (
+  block-reads.Asked,
+  block-reads.Learnt,
+  block-word-reads.Asked,
+  block-word-reads.Learnt,
   enter-reads.Asked,
   enter-reads.Learnt,
   visit-below t,
@@ -126,29 +202,33 @@ visit-enum-known-m-2 : (t : ℕ) → visit-lts.Need-enum-known-m-2 (
 visit-enum-known-m-2 t c = search needs
 
 visit-visit-requires-2 : (t : ℕ) → visit-lts.Need-visit-requires-2 (
+  block-reads.Asked,
+  block-reads.Learnt,
+  block-word-reads.Asked,
+  block-word-reads.Learnt,
   enter-reads.Asked,
   enter-reads.Learnt,
   visit-below t,
   visit.Post,
 ) (visit-at t) visit.Post
 visit-visit-requires-2 t c κs =
-    let at-m2 = c .before .before .before in
-    let at-visit = at-m2 .before .before .before .before .before .before in
-    let at-e = at-visit .before .before .before .before in
-    let at-enter = at-e .before .before .before .before .before .before in
-    let at-if3 = at-enter .before .before .before in
-    let at-if2 = at-if3 .before in
-    let start = at-if2 .before .before .before .before .before in (
-      omega (arith, start .pre .0, at-if2 .if2 .left, at-if3 .if3 .left),
+    let at-m2 = c .before .before in
+    let at-enter = at-m2 .before .before .before .before in
+    let start = at-enter .before .before .before .before .before .before .before in
+    let room = start .pre .1 .1 in (
+      omega (arith, start .pre .0, room .low, room .high),
       (
         start .pre .1 .0,
-        room-left (start .pre .1 .1) (at-if2 .if2 .left) (at-if3 .if3 .left) (at-enter .enter .ensures) (at-e .e .given .1)
-            (at-enter .enter .kept .1 .1 .1 .1 .0) (at-enter .enter .kept .1 .1 .1 .1 .1 .0) _ (at-visit .visit .ensures)
-            (at-m2 .m2 .given .1) (at-visit .visit .kept .1 .1 .1 .1 .1 .1 .0) (at-visit .visit .kept .1 .1 .1 .1 .1 .1 .1 .0),
+        inside-room (at-enter .enter .ensures) (child-room room) (at-m2 .m2 .given .1)
+            (at-enter .enter .kept .1 .1 .1 .1 .1 .1 .0),
       ),
     )
 
 visit-same-length : (t : ℕ) → visit-lts.Need-same-length (
+  block-reads.Asked,
+  block-reads.Learnt,
+  block-word-reads.Asked,
+  block-word-reads.Learnt,
   enter-reads.Asked,
   enter-reads.Learnt,
   visit-below t,
@@ -156,7 +236,121 @@ visit-same-length : (t : ℕ) → visit-lts.Need-same-length (
 ) (visit-at t) visit.Post
 visit-same-length t c = search needs
 
+visit-returns : (t : ℕ) → visit-lts.Need-returns (
+  block-reads.Asked,
+  block-reads.Learnt,
+  block-word-reads.Asked,
+  block-word-reads.Learnt,
+  enter-reads.Asked,
+  enter-reads.Learnt,
+  visit-below t,
+  visit.Post,
+) (visit-at t) visit.Post
+visit-returns t c =
+    let at-visit2 = c .before .before .before in
+    let at-m2 = at-visit2 .before .before .before in
+    let at-enter = at-m2 .before .before .before .before in
+    let at-block-word = at-enter .before .before .before in
+    let at-block = at-block-word .before in
+    let start = at-block .before .before .before in
+    let room = start .pre .1 .1 in
+    let is = part-is (start .pre .1 .0) (at-block .block .ensures) in
+    let first = by-inside (at-enter .enter .ensures) (at-m2 .m2 .given .1) (at-visit2 .visit2 .ensures) in
+    inside-stops room first is (at-block-word .block-word .ensures) (c .if1 .taken)
+
+visit-enter-requires-3 : (t : ℕ) → visit-lts.Need-enter-requires-3 (
+  block-reads.Asked,
+  block-reads.Learnt,
+  block-word-reads.Asked,
+  block-word-reads.Learnt,
+  enter-reads.Asked,
+  enter-reads.Learnt,
+  visit-below t,
+  visit.Post,
+) (visit-at t) visit.Post
+visit-enter-requires-3 t c κs =
+    let at-visit2 = c .before .before .before .before in
+    let at-m2 = at-visit2 .before .before .before in
+    let at-enter = at-m2 .before .before .before .before in
+    let start = at-enter .before .before .before .before .before .before .before in
+    let room = start .pre .1 .1 in
+    let first = by-inside (at-enter .enter .ensures) (at-m2 .m2 .given .1) (at-visit2 .visit2 .ensures) in (
+      start .pre .1 .0,
+      left-room room first (omega (arith, c .before .if1 .left))
+          (at-visit2 .visit2 .kept .1 .1 .1 .1 .1 .1 .0 ∙ at-enter .enter .kept .1 .1 .1 .1 .1 .1 .0),
+    )
+
+visit-enum-told-3 : (t : ℕ) → visit-lts.Need-enum-told-3 (
+  block-reads.Asked,
+  block-reads.Learnt,
+  block-word-reads.Asked,
+  block-word-reads.Learnt,
+  enter-reads.Asked,
+  enter-reads.Learnt,
+  visit-below t,
+  visit.Post,
+) (visit-at t) visit.Post
+visit-enum-told-3 t c = search needs
+
+visit-enum-known-k-3 : (t : ℕ) → visit-lts.Need-enum-known-k-3 (
+  block-reads.Asked,
+  block-reads.Learnt,
+  block-word-reads.Asked,
+  block-word-reads.Learnt,
+  enter-reads.Asked,
+  enter-reads.Learnt,
+  visit-below t,
+  visit.Post,
+) (visit-at t) visit.Post
+visit-enum-known-k-3 t c = search needs
+
+visit-enum-known-k-4 : (t : ℕ) → visit-lts.Need-enum-known-k-4 (
+  block-reads.Asked,
+  block-reads.Learnt,
+  block-word-reads.Asked,
+  block-word-reads.Learnt,
+  enter-reads.Asked,
+  enter-reads.Learnt,
+  visit-below t,
+  visit.Post,
+) (visit-at t) visit.Post
+visit-enum-known-k-4 t c = search needs
+
+visit-visit-requires-3 : (t : ℕ) → visit-lts.Need-visit-requires-3 (
+  block-reads.Asked,
+  block-reads.Learnt,
+  block-word-reads.Asked,
+  block-word-reads.Learnt,
+  enter-reads.Asked,
+  enter-reads.Learnt,
+  visit-below t,
+  visit.Post,
+) (visit-at t) visit.Post
+visit-visit-requires-3 t c κs =
+    let at-k4 = c .before .before in
+    let at-enter3 = at-k4 .before .before .before .before in
+    let at-if1 = at-enter3 .before .before in
+    let at-visit2 = at-if1 .before .before .before in
+    let at-m2 = at-visit2 .before .before .before in
+    let at-enter = at-m2 .before .before .before .before in
+    let start = at-enter .before .before .before .before .before .before .before in
+    let room = start .pre .1 .1 in
+    let first = by-inside (at-enter .enter .ensures) (at-m2 .m2 .given .1) (at-visit2 .visit2 .ensures) in
+    let left = left-room room first (omega (arith, at-if1 .if1 .left))
+    (at-visit2 .visit2 .kept .1 .1 .1 .1 .1 .1 .0 ∙ at-enter .enter .kept .1 .1 .1 .1 .1 .1 .0) in (
+      omega (arith, start .pre .0, room .low, room .high),
+      (
+        start .pre .1 .0,
+        inside-room (at-enter3 .enter3 .ensures) left (at-k4 .k4 .given .1)
+            (at-enter3 .enter3 .kept .1 .1 .1 .1 .1 .1 .0),
+      ),
+    )
+
 visit-same-length-2 : (t : ℕ) → visit-lts.Need-same-length-2 (
+  block-reads.Asked,
+  block-reads.Learnt,
+  block-word-reads.Asked,
+  block-word-reads.Learnt,
   enter-reads.Asked,
   enter-reads.Learnt,
   visit-below t,
@@ -164,20 +358,31 @@ visit-same-length-2 : (t : ℕ) → visit-lts.Need-same-length-2 (
 ) (visit-at t) visit.Post
 visit-same-length-2 t c = search needs
 
-visit-returns-4 : (t : ℕ) → visit-lts.Need-returns-4 (
+visit-returns-2 : (t : ℕ) → visit-lts.Need-returns-2 (
+  block-reads.Asked,
+  block-reads.Learnt,
+  block-word-reads.Asked,
+  block-word-reads.Learnt,
   enter-reads.Asked,
   enter-reads.Learnt,
   visit-below t,
   visit.Post,
 ) (visit-at t) visit.Post
-visit-returns-4 t c =
-    let at-enter = c .before .before .before .before .before .before in
-    let at-if3 = at-enter .before .before .before in
-    let at-if2 = at-if3 .before in
-    let at-if1 = at-if2 .before in
-    visit-many (at-if1 .if1 .left) (at-if2 .if2 .left) (at-if3 .if3 .left) (at-enter .enter .ensures) (c .enum-told .given .1)
+visit-returns-2 t c =
+    let at-enter = c .before .before .before .before in
+    let at-block-word = at-enter .before .before .before in
+    let at-block = at-block-word .before in
+    let start = at-block .before .before .before in
+    let room = start .pre .1 .1 in
+    let is = part-is (start .pre .1 .0) (at-block .block .ensures) in
+    inside-stops room (by-break (at-enter .enter .ensures) (c .enum-told .given .1)) is (at-block-word .block-word .ensures)
+    refl
 
 visit-same-length-3 : (t : ℕ) → visit-lts.Need-same-length-3 (
+  block-reads.Asked,
+  block-reads.Learnt,
+  block-word-reads.Asked,
+  block-word-reads.Learnt,
   enter-reads.Asked,
   enter-reads.Learnt,
   visit-below t,
@@ -185,7 +390,35 @@ visit-same-length-3 : (t : ℕ) → visit-lts.Need-same-length-3 (
 ) (visit-at t) visit.Post
 visit-same-length-3 t c = search needs
 
+visit-returns-3 : (t : ℕ) → visit-lts.Need-returns-3 (
+  block-reads.Asked,
+  block-reads.Learnt,
+  block-word-reads.Asked,
+  block-word-reads.Learnt,
+  enter-reads.Asked,
+  enter-reads.Learnt,
+  visit-below t,
+  visit.Post,
+) (visit-at t) visit.Post
+visit-returns-3 t c =
+    let at-enter2 = c .before .before .before .before in
+    let at-m = at-enter2 .before .before .before in
+    let at-enter = at-m .before .before .before .before in
+    let at-block-word2 = at-enter .before .before in
+    let at-block-word = at-block-word2 .before in
+    let at-block = at-block-word .before in
+    let start = at-block .before .before .before in
+    let room = start .pre .1 .1 in
+    let is = part-is (start .pre .1 .0) (at-block .block .ensures) in
+    let first = by-end (at-enter .enter .ensures) (at-m .m .given .1) in
+    inside-on room first (some-listed (at-enter .enter .ensures) (at-m .m .given .1)) is (at-block-word .block-word .ensures)
+    (at-block-word2 .block-word2 .ensures) (by-break (at-enter2 .enter2 .ensures) (c .enum-told2 .given .1))
+
 visit-same-length-4 : (t : ℕ) → visit-lts.Need-same-length-4 (
+  block-reads.Asked,
+  block-reads.Learnt,
+  block-word-reads.Asked,
+  block-word-reads.Learnt,
   enter-reads.Asked,
   enter-reads.Learnt,
   visit-below t,
@@ -193,20 +426,35 @@ visit-same-length-4 : (t : ℕ) → visit-lts.Need-same-length-4 (
 ) (visit-at t) visit.Post
 visit-same-length-4 t c = search needs
 
-visit-returns-5 : (t : ℕ) → visit-lts.Need-returns-5 (
+visit-returns-4 : (t : ℕ) → visit-lts.Need-returns-4 (
+  block-reads.Asked,
+  block-reads.Learnt,
+  block-word-reads.Asked,
+  block-word-reads.Learnt,
   enter-reads.Asked,
   enter-reads.Learnt,
   visit-below t,
   visit.Post,
 ) (visit-at t) visit.Post
-visit-returns-5 t c =
-    let at-enter = c .before .before .before .before .before .before .before in
-    let at-if3 = at-enter .before .before .before in
-    let at-if2 = at-if3 .before in
-    let at-if1 = at-if2 .before in
-    visit-ended (at-if1 .if1 .left) (at-if2 .if2 .left) (at-if3 .if3 .left) (at-enter .enter .ensures) (c .before .m .given .1)
+visit-returns-4 t c =
+    let at-enter2 = c .before .before .before .before .before in
+    let at-m = at-enter2 .before .before .before in
+    let at-enter = at-m .before .before .before .before in
+    let at-block-word2 = at-enter .before .before in
+    let at-block-word = at-block-word2 .before in
+    let at-block = at-block-word .before in
+    let start = at-block .before .before .before in
+    let room = start .pre .1 .1 in
+    let is = part-is (start .pre .1 .0) (at-block .block .ensures) in
+    let first = by-end (at-enter .enter .ensures) (at-m .m .given .1) in
+    inside-on room first (some-listed (at-enter .enter .ensures) (at-m .m .given .1)) is (at-block-word .block-word .ensures)
+    (at-block-word2 .block-word2 .ensures) (by-end (at-enter2 .enter2 .ensures) (c .before .k .given .1))
 
 visit-same-length-5 : (t : ℕ) → visit-lts.Need-same-length-5 (
+  block-reads.Asked,
+  block-reads.Learnt,
+  block-word-reads.Asked,
+  block-word-reads.Learnt,
   enter-reads.Asked,
   enter-reads.Learnt,
   visit-below t,
@@ -214,7 +462,38 @@ visit-same-length-5 : (t : ℕ) → visit-lts.Need-same-length-5 (
 ) (visit-at t) visit.Post
 visit-same-length-5 t c = search needs
 
+visit-returns-5 : (t : ℕ) → visit-lts.Need-returns-5 (
+  block-reads.Asked,
+  block-reads.Learnt,
+  block-word-reads.Asked,
+  block-word-reads.Learnt,
+  enter-reads.Asked,
+  enter-reads.Learnt,
+  visit-below t,
+  visit.Post,
+) (visit-at t) visit.Post
+visit-returns-5 t c =
+    let at-visit = c .before .before in
+    let at-k2 = at-visit .before .before .before in
+    let at-enter2 = at-k2 .before .before .before .before in
+    let at-m = at-enter2 .before .before .before in
+    let at-enter = at-m .before .before .before .before in
+    let at-block-word2 = at-enter .before .before in
+    let at-block-word = at-block-word2 .before in
+    let at-block = at-block-word .before in
+    let start = at-block .before .before .before in
+    let room = start .pre .1 .1 in
+    let is = part-is (start .pre .1 .0) (at-block .block .ensures) in
+    let first = by-end (at-enter .enter .ensures) (at-m .m .given .1) in
+    inside-on room first (some-listed (at-enter .enter .ensures) (at-m .m .given .1)) is (at-block-word .block-word .ensures)
+    (at-block-word2 .block-word2 .ensures)
+    (by-inside (at-enter2 .enter2 .ensures) (at-k2 .k2 .given .1) (at-visit .visit .ensures))
+
 visit-same-length-6 : (t : ℕ) → visit-lts.Need-same-length-6 (
+  block-reads.Asked,
+  block-reads.Learnt,
+  block-word-reads.Asked,
+  block-word-reads.Learnt,
   enter-reads.Asked,
   enter-reads.Learnt,
   visit-below t,
@@ -223,22 +502,36 @@ visit-same-length-6 : (t : ℕ) → visit-lts.Need-same-length-6 (
 visit-same-length-6 t c = search needs
 
 visit-returns-6 : (t : ℕ) → visit-lts.Need-returns-6 (
+  block-reads.Asked,
+  block-reads.Learnt,
+  block-word-reads.Asked,
+  block-word-reads.Learnt,
   enter-reads.Asked,
   enter-reads.Learnt,
   visit-below t,
   visit.Post,
 ) (visit-at t) visit.Post
 visit-returns-6 t c =
-    let at-visit = c .before .before .before .before .before .before in
-    let at-e = at-visit .before .before .before .before in
-    let at-enter = at-e .before .before .before .before .before .before in
-    let at-if3 = at-enter .before .before .before in
-    let at-if2 = at-if3 .before in
-    let at-if1 = at-if2 .before in
-    visit-stopped (at-if1 .if1 .left) (at-if2 .if2 .left) (at-if3 .if3 .left) (at-enter .enter .ensures) (at-e .e .given .1)
-    (at-visit .visit .ensures) (c .enum-told2 .given .1)
+    let at-enter3 = c .before .before .before .before in
+    let at-if1 = at-enter3 .before .before in
+    let at-visit2 = at-if1 .before .before .before in
+    let at-m2 = at-visit2 .before .before .before in
+    let at-enter = at-m2 .before .before .before .before in
+    let at-block-word2 = at-enter .before .before in
+    let at-block-word = at-block-word2 .before in
+    let at-block = at-block-word .before in
+    let start = at-block .before .before .before in
+    let room = start .pre .1 .1 in
+    let is = part-is (start .pre .1 .0) (at-block .block .ensures) in
+    let first = by-inside (at-enter .enter .ensures) (at-m2 .m2 .given .1) (at-visit2 .visit2 .ensures) in
+    inside-on room first (omega (arith, at-if1 .if1 .left)) is (at-block-word .block-word .ensures)
+    (at-block-word2 .block-word2 .ensures) (by-break (at-enter3 .enter3 .ensures) (c .enum-told3 .given .1))
 
 visit-same-length-7 : (t : ℕ) → visit-lts.Need-same-length-7 (
+  block-reads.Asked,
+  block-reads.Learnt,
+  block-word-reads.Asked,
+  block-word-reads.Learnt,
   enter-reads.Asked,
   enter-reads.Learnt,
   visit-below t,
@@ -246,7 +539,37 @@ visit-same-length-7 : (t : ℕ) → visit-lts.Need-same-length-7 (
 ) (visit-at t) visit.Post
 visit-same-length-7 t c = search needs
 
+visit-returns-7 : (t : ℕ) → visit-lts.Need-returns-7 (
+  block-reads.Asked,
+  block-reads.Learnt,
+  block-word-reads.Asked,
+  block-word-reads.Learnt,
+  enter-reads.Asked,
+  enter-reads.Learnt,
+  visit-below t,
+  visit.Post,
+) (visit-at t) visit.Post
+visit-returns-7 t c =
+    let at-enter3 = c .before .before .before .before .before in
+    let at-if1 = at-enter3 .before .before in
+    let at-visit2 = at-if1 .before .before .before in
+    let at-m2 = at-visit2 .before .before .before in
+    let at-enter = at-m2 .before .before .before .before in
+    let at-block-word2 = at-enter .before .before in
+    let at-block-word = at-block-word2 .before in
+    let at-block = at-block-word .before in
+    let start = at-block .before .before .before in
+    let room = start .pre .1 .1 in
+    let is = part-is (start .pre .1 .0) (at-block .block .ensures) in
+    let first = by-inside (at-enter .enter .ensures) (at-m2 .m2 .given .1) (at-visit2 .visit2 .ensures) in
+    inside-on room first (omega (arith, at-if1 .if1 .left)) is (at-block-word .block-word .ensures)
+    (at-block-word2 .block-word2 .ensures) (by-end (at-enter3 .enter3 .ensures) (c .before .k3 .given .1))
+
 visit-same-length-8 : (t : ℕ) → visit-lts.Need-same-length-8 (
+  block-reads.Asked,
+  block-reads.Learnt,
+  block-word-reads.Asked,
+  block-word-reads.Learnt,
   enter-reads.Asked,
   enter-reads.Learnt,
   visit-below t,
@@ -254,26 +577,41 @@ visit-same-length-8 : (t : ℕ) → visit-lts.Need-same-length-8 (
 ) (visit-at t) visit.Post
 visit-same-length-8 t c = search needs
 
-visit-returns-7 : (t : ℕ) → visit-lts.Need-returns-7 (
+visit-returns-8 : (t : ℕ) → visit-lts.Need-returns-8 (
+  block-reads.Asked,
+  block-reads.Learnt,
+  block-word-reads.Asked,
+  block-word-reads.Learnt,
   enter-reads.Asked,
   enter-reads.Learnt,
   visit-below t,
   visit.Post,
 ) (visit-at t) visit.Post
-visit-returns-7 t c =
-    let at-visit2 = c .before .before .before .before in
-    let at-m2 = at-visit2 .before .before .before .before in
-    let at-visit = at-m2 .before .before .before .before .before .before in
-    let at-e = at-visit .before .before .before .before in
-    let at-enter = at-e .before .before .before .before .before .before in
-    let at-if3 = at-enter .before .before .before in
-    let at-if2 = at-if3 .before in
-    let at-if1 = at-if2 .before in
-    visit-on (at-if1 .if1 .left) (at-if2 .if2 .left) (at-if3 .if3 .left) (at-enter .enter .ensures) (at-e .e .given .1)
-    (at-visit .visit .ensures) (at-m2 .m2 .given .1) (at-visit2 .visit2 .ensures)
+visit-returns-8 t c =
+    let at-visit3 = c .before .before in
+    let at-k4 = at-visit3 .before .before .before in
+    let at-enter3 = at-k4 .before .before .before .before in
+    let at-if1 = at-enter3 .before .before in
+    let at-visit2 = at-if1 .before .before .before in
+    let at-m2 = at-visit2 .before .before .before in
+    let at-enter = at-m2 .before .before .before .before in
+    let at-block-word2 = at-enter .before .before in
+    let at-block-word = at-block-word2 .before in
+    let at-block = at-block-word .before in
+    let start = at-block .before .before .before in
+    let room = start .pre .1 .1 in
+    let is = part-is (start .pre .1 .0) (at-block .block .ensures) in
+    let first = by-inside (at-enter .enter .ensures) (at-m2 .m2 .given .1) (at-visit2 .visit2 .ensures) in
+    inside-on room first (omega (arith, at-if1 .if1 .left)) is (at-block-word .block-word .ensures)
+    (at-block-word2 .block-word2 .ensures)
+    (by-inside (at-enter3 .enter3 .ensures) (at-k4 .k4 .given .1) (at-visit3 .visit3 .ensures))
 
 pub +visit-spec : {M : Type 1} → statement M
 +visit-spec = close μ-visit λ t. visit-lts.spec (
+  block-reads.Asked,
+  block-reads.Learnt,
+  block-word-reads.Asked,
+  block-word-reads.Learnt,
   enter-reads.Asked,
   enter-reads.Learnt,
   visit-below t,
@@ -281,26 +619,37 @@ pub +visit-spec : {M : Type 1} → statement M
 )
     (visit-at t)
     visit.Post
-    (visit-returns t)
-    (visit-returns-2 t)
-    (visit-returns-3 t)
+    (visit-block-requires t)
+    (visit-block-word-requires t)
+    (visit-block-word-requires-2 t)
     (visit-enter-requires t)
     (visit-enum-told t)
     (visit-enum-known-m t)
-    (visit-enum-known-e t)
-    (visit-visit-requires t)
+    (visit-enter-requires-2 t)
     (visit-enum-told-2 t)
+    (visit-enum-known-k t)
+    (visit-enum-known-k-2 t)
+    (visit-visit-requires t)
     (visit-enum-known-m-2 t)
     (visit-visit-requires-2 t)
     (visit-same-length t)
+    (visit-returns t)
+    (visit-enter-requires-3 t)
+    (visit-enum-told-3 t)
+    (visit-enum-known-k-3 t)
+    (visit-enum-known-k-4 t)
+    (visit-visit-requires-3 t)
     (visit-same-length-2 t)
-    (visit-returns-4 t)
+    (visit-returns-2 t)
     (visit-same-length-3 t)
+    (visit-returns-3 t)
     (visit-same-length-4 t)
-    (visit-returns-5 t)
+    (visit-returns-4 t)
     (visit-same-length-5 t)
+    (visit-returns-5 t)
     (visit-same-length-6 t)
     (visit-returns-6 t)
     (visit-same-length-7 t)
-    (visit-same-length-8 t)
     (visit-returns-7 t)
+    (visit-same-length-8 t)
+    (visit-returns-8 t)

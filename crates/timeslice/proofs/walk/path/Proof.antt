@@ -5,6 +5,7 @@ use lib.ListN.{length}
 use borrow.Author.Needs.{needs}
 use Rattle.calls.specs.Step.{reader}
 use Rattle.timeslice.specs.Told.{Reach}
+use Rattle.timeslice.specs.ToldLaws.{blocks-of}
 use Rattle.timeslice.specs.PathLaws.{Onward, begun, path-ends, path-stops, path-visit-stops, path-turn, reach-numbered, reach-space, visit-room, up-below, rest-room}
 use Rattle.timeslice.proofs.walk.path.Statement.{statement}
 use Rattle.timeslice.proofs.walk.path.Tie as tie
@@ -52,13 +53,13 @@ returns c =
     let at-loop = at-loop-test .before in
     path-stops (at-loop .loop .inv .3) (at-loop-test .loop-test .taken) (at-climb .climb .ensures) (c .enum-told .given .1)
 
-visit-requires : tie.Need-visit-requires Inv-loop μ-loop
-visit-requires c κs =
+visit-rows-requires : tie.Need-visit-rows-requires Inv-loop μ-loop
+visit-rows-requires c κs =
     let at-step = c .before .before .before in
     let at-climb = at-step .before .before .before .before .before .before in
     let at-loop = at-climb .before .before .before .before in
     let start = at-loop .before .before .before .before in (
-      start .pre .0,
+      blocks-of (start .pre .0),
       visit-room (at-loop .loop .inv .0) (at-climb .climb .ensures) (at-step .step .given .1)
           (at-climb .climb .kept .1 .1 .1 .1 .0) (at-climb .climb .kept .1 .1 .1 .1 .1 .0),
     )
@@ -83,7 +84,7 @@ returns-2 c =
     let at-loop-test = at-climb .before .before .before in
     let at-loop = at-loop-test .before in
     path-visit-stops (at-loop .loop .inv .3) (at-loop-test .loop-test .taken) (at-climb .climb .ensures)
-    (at-step .step .given .1) (at-visit .visit .ensures) (c .enum-told2 .given .1)
+    (at-step .step .given .1) (at-visit .visit-rows .ensures) (c .enum-told2 .given .1)
 
 loop-less : tie.Need-loop-less Inv-loop μ-loop
 loop-less c =
@@ -100,12 +101,12 @@ loop-again c =
     let at-loop-test = at-climb .before .before .before in
     let at-loop = at-loop-test .before in (
       rest-room (at-loop .loop .inv .0) (at-climb .climb .ensures) (at-step .step .given .1) (at-climb .climb .kept .1 .1 .1 .1 .0)
-          (at-climb .climb .kept .1 .1 .1 .1 .1 .0) (at-visit .visit .ensures) (c .before .m .given .1)
-          (at-visit .visit .kept .1 .1 .1 .1 .1 .1 .0) (at-visit .visit .kept .1 .1 .1 .1 .1 .1 .1 .0),
-      at-visit .visit .kept .1 .1 .1 .1 .1 .1 .0 ∙ at-climb .climb .kept .1 .1 .1 .1 .0 ∙ at-loop .loop .inv .1,
-      at-visit .visit .kept .1 .1 .1 .1 .1 .1 .1 .0 ∙ at-climb .climb .kept .1 .1 .1 .1 .1 .0 ∙ at-loop .loop .inv .2,
+          (at-climb .climb .kept .1 .1 .1 .1 .1 .0) (at-visit .visit-rows .ensures) (c .before .m .given .1)
+          (at-visit .visit-rows .kept .1 .1 .1 .1 .1 .1 .0) (at-visit .visit-rows .kept .1 .1 .1 .1 .1 .1 .1 .0),
+      at-visit .visit-rows .kept .1 .1 .1 .1 .1 .1 .0 ∙ at-climb .climb .kept .1 .1 .1 .1 .0 ∙ at-loop .loop .inv .1,
+      at-visit .visit-rows .kept .1 .1 .1 .1 .1 .1 .1 .0 ∙ at-climb .climb .kept .1 .1 .1 .1 .1 .0 ∙ at-loop .loop .inv .2,
       path-turn (at-loop .loop .inv .3) (at-loop-test .loop-test .taken) (at-climb .climb .ensures) (at-step .step .given .1)
-          (at-visit .visit .ensures) (c .before .m .given .1),
+          (at-visit .visit-rows .ensures) (c .before .m .given .1),
     )
 
 same-length-5 : tie.Need-same-length-5 Inv-loop μ-loop
@@ -130,7 +131,7 @@ path-spec =
     same-length
     same-length-2
     returns
-    visit-requires
+    visit-rows-requires
     enum-known-m
     enum-told-2
     same-length-3
