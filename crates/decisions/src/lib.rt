@@ -82,8 +82,8 @@ pub fn decide_set(store: &[u32], second: u32, tag: u32) -> Verdict
     }
 }
 
-// A clear (more = 0) or a new reading (more = 1): refusals 2 to 6, then 8, 10, 12 and 13.
-fn decide_clearing(store: &[u32], second: u32, tag: u32, more: u32) -> Verdict
+// A clear (more = 0: it places copies only) or a new reading (more = 1: it places its record besides): refusals 2 to 6, then 8, 10, 12 and 13.
+pub fn decide_clearing(store: &[u32], second: u32, tag: u32, more: u32) -> Verdict
     requires { ⌜ more ≤ 1 ⌝ }
     ensures { λ r. ⌜ r ≡ verdict (clearTests more (now (store .entry)) (wordsRead (now (store .entry))) second tag) (headOf (now (store .entry))) ⌝ }
 {
@@ -95,18 +95,4 @@ fn decide_clearing(store: &[u32], second: u32, tag: u32, more: u32) -> Verdict
             ruled(h, n)
         }
     }
-}
-
-// A clear places copies only.
-pub fn decide_clear(store: &[u32], second: u32, tag: u32) -> Verdict
-    ensures { λ r. ⌜ r ≡ verdict (clearTests 0 (now (store .entry)) (wordsRead (now (store .entry))) second tag) (headOf (now (store .entry))) ⌝ }
-{
-    decide_clearing(store, second, tag, 0)
-}
-
-// A new reading places its record besides.
-pub fn decide_update(store: &[u32], second: u32, tag: u32) -> Verdict
-    ensures { λ r. ⌜ r ≡ verdict (clearTests 1 (now (store .entry)) (wordsRead (now (store .entry))) second tag) (headOf (now (store .entry))) ⌝ }
-{
-    decide_clearing(store, second, tag, 1)
 }
