@@ -2,7 +2,8 @@
 use mathlib.Core.Path.{_≡_, refl, sym, ap, _∙_, subst}
 use mathlib.Core.Logic.{_≢_}
 use mathlib.Core.List.{List, []}
-use Prim.Native.Nat.{ℕ}
+use Prim.Native.Nat.{ℕ, zero, suc, _≤_}
+use native.Mathlib.Omega.{arith}
 use borrow.Author.Tests.{ne-eqb}
 use Rattle.layout.specs.declared.settings.Settings.{Settings}
 use Rattle.layout.specs.declared.head.Cursor.{Cursor}
@@ -16,6 +17,7 @@ use Rattle.calls.specs.Calls as calls
 use Rattle.calls.specs.Placing.{setProgram, clearProgram, updateProgram, advanceProgram}
 use Rattle.calls.specs.Refusals.{Test, refusal, startTests, timeTests, setTests, clearTests}
 use Rattle.calls.specs.Step.{reply, change, freshHead, start, wordsRead}
+use Rattle.placing.specs.Steps.{Listed, clearingProgram}
 use Rattle.safety.specs.CallSafe.{advance-over, set-over, clear-over, update-over, held-able}
 use Rattle.decisions.specs.declared.Verdict.the-variants as verdict
 use Rattle.decisions.specs.declared.start.StartVerdict.the-variants as on-start
@@ -68,18 +70,30 @@ module _ (ws : List ℕ) (s : ℕ) where
         let t = go-set ws s tag e in
         held-able (t .time .ready .held) (set-over (t .time .ready .head .sound) (wordsOf h ws) s tag (t .has-tag) reading (t .sound) (t .room))
 
-    pub clear-able : {h : Head} → verdict (clearTests 0 ws (wordsRead ws) s tag) (headOf ws) ≡ verdict.Go h
+    clear-able : {h : Head} → verdict (clearTests 0 ws (wordsRead ws) s tag) (headOf ws) ≡ verdict.Go h
         → Able (h .settings) (clearProgram (h .settings) (h .cursor) s tag) ws
     clear-able {h} e =
         let t = go-clear ws s 0 tag e in
         held-able (t .time .ready .held) (clear-over (t .time .ready .head .sound) (wordsOf h ws) s tag (t .has-tag) (t .standing) (t .sound) (t .room))
 
-    pub update-able : (reading : ℕ) {h : Head} → verdict (clearTests 1 ws (wordsRead ws) s tag) (headOf ws) ≡ verdict.Go h
+    update-able : (reading : ℕ) {h : Head} → verdict (clearTests 1 ws (wordsRead ws) s tag) (headOf ws) ≡ verdict.Go h
         → Able (h .settings) (updateProgram (h .settings) (h .cursor) s tag reading) ws
     update-able reading {h} e =
         let t = go-clear ws s 1 tag e in
         held-able (t .time .ready .held)
         (update-over (t .time .ready .head .sound) (wordsOf h ws) s tag (t .has-tag) (t .standing) reading (t .sound) (t .room))
+
+    -- a clear or a new reading; its tag has a place.
+    pub clearing-able : (more reading : ℕ) {h : Head} → more ≤ 1 → verdict (clearTests more ws (wordsRead ws) s tag) (headOf ws) ≡ verdict.Go h
+        → Able (h .settings) (clearingProgram more (h .settings) (h .cursor) s tag reading) ws
+    clearing-able zero reading l e =
+        let a = clear-able e in record { within = a .within; memory = a .memory; agree = a .agree; safe = a .safe }
+    clearing-able (suc zero) reading l e =
+        let a = update-able reading e in record { within = a .within; memory = a .memory; agree = a .agree; safe = a .safe }
+    clearing-able (suc (suc n)) reading l e = absurd (omega arith)
+
+    pub clearing-listed : (more : ℕ) {h : Head} → verdict (clearTests more ws (wordsRead ws) s tag) (headOf ws) ≡ verdict.Go h → Listed (h .settings) ws tag
+    clearing-listed more {h} e = let t = go-clear ws s more tag e in let d = t .standing in record { some = omega (arith, d) }
 
 -- ---- a start
 module _ (ws : List ℕ) (s : Settings) where

@@ -9,9 +9,10 @@ use decisions::Verdict;
 use layout::head;
 use layout::head::Cursor;
 use layout::head::Head;
+ghost use Prim.Native.Nat.{_≤_};
 ghost use Rattle.calls.specs.Step.{start, set, clear, update, advance};
 ghost use Rattle.decisions.specs.Start.{settingsOf};
-ghost use Rattle.changes.specs.Replied.{Replied};
+ghost use Rattle.changes.specs.Replied.{Replied, clearing};
 
 // What a call answers: the next head, or its refusal by the paper's number.
 pub enum Change {
@@ -64,17 +65,18 @@ pub fn set(store: &mut [u32], second: u32, tag: u32, reading: u32) -> Change
     }
 }
 
-// A tag's standing record ends.
-pub fn clear(store: &mut [u32], second: u32, tag: u32) -> Change
-    ensures { λ r. ⌜ Replied (clear (now (store .entry)) second tag) r (now (store .exit)) ⌝ }
+// A clear (more = 0) or a new reading (more = 1), in one function, so that both are decided and written by the same code.
+fn clearing(store: &mut [u32], second: u32, tag: u32, more: u32, reading: u32) -> Change
+    requires { ⌜ more ≤ 1 ⌝ }
+    ensures { λ r. ⌜ Replied (clearing more (now (store .entry)) second tag reading) r (now (store .exit)) ⌝ }
 {
-    let verdict = decisions::decide_clear(store, second, tag);
+    let verdict = decisions::decide_clearing(store, second, tag, more);
     match verdict {
         Verdict::Refused(n) => Change::Refused(n),
         Verdict::Go(h) => {
             let s = h.settings;
             let c = h.cursor;
-            let next = placing::changes::clear_program(store, s, c, second, tag);
+            let next = placing::changes::clearing_program(store, s, c, second, tag, more, reading);
             Change::Done(Head {
                 settings: s,
                 cursor: next,
@@ -83,23 +85,18 @@ pub fn clear(store: &mut [u32], second: u32, tag: u32) -> Change
     }
 }
 
+// A tag's standing record ends.
+pub fn clear(store: &mut [u32], second: u32, tag: u32) -> Change
+    ensures { λ r. ⌜ Replied (clear (now (store .entry)) second tag) r (now (store .exit)) ⌝ }
+{
+    clearing(store, second, tag, 0, 0)
+}
+
 // A new reading: a clear and a set at the same second.
 pub fn update(store: &mut [u32], second: u32, tag: u32, reading: u32) -> Change
     ensures { λ r. ⌜ Replied (update (now (store .entry)) second tag reading) r (now (store .exit)) ⌝ }
 {
-    let verdict = decisions::decide_update(store, second, tag);
-    match verdict {
-        Verdict::Refused(n) => Change::Refused(n),
-        Verdict::Go(h) => {
-            let s = h.settings;
-            let c = h.cursor;
-            let next = placing::changes::update_program(store, s, c, second, tag, reading);
-            Change::Done(Head {
-                settings: s,
-                cursor: next,
-            })
-        }
-    }
+    clearing(store, second, tag, 1, reading)
 }
 
 // The clock moves on.

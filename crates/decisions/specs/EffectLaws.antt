@@ -17,7 +17,11 @@ use Rattle.layout.specs.Head.{placed}
 use Rattle.layout.specs.HeadLaws.{SoundHead}
 use Rattle.layout.specs.Standing.{slots, raised}
 use Rattle.calls.specs.Placing.{blockOf, slotOf}
-use Rattle.calls.specs.Refusals.{opens, takenUp, acceptorCloses, closes, copies, remaining}
+use Rattle.calls.specs.Refusals.{opens, takenUp, closes, copies, remaining}
+
+-- the acceptor, with standing bits b, has fewer than q standing once its free slots are taken (`acceptorCloses` where a block opens)
+abbrev pub fewWhenFull : Head → Standing → Bool
+fewWhenFull h b = ltb (length (slots (takenUp b (h .cursor .fill) (h .settings .block - h .cursor .fill)))) (h .settings .useful)
 
 -- One slot taken, the others are left.
 pub taken-more : (b : Standing) (k to : ℕ) → k < to → takenUp b k (to - k) ≡ takenUp (raised b k) (k + 1) (to - (k + 1))
@@ -68,12 +72,6 @@ pub opens-some : (h : Head) (incoming : ℕ) → SoundHead h → (incoming ≡ 0
 opens-some h n g a d = lt? (h .settings .block - h .cursor .fill) n
     (λ l. simp (lt-ltb 0 n (omega arith), ne-eqb _ _ d, lt-ltb _ _ l, lt-ltb (h .settings .block) (h .cursor .fill + n) (omega (arith, g .fill))))
     (λ l. simp (lt-ltb 0 n (omega arith), ne-eqb _ _ d, le-ltb _ _ l, le-ltb (h .settings .block) (h .cursor .fill + n) (omega (arith, g .fill))))
-
--- ---- the acceptor closes, by its three tests
-pub acceptor-closes : (h : Head) (b : Standing) (n : ℕ) {o a c : Bool} → opens h n ≡ o → eqb (h .cursor .opened) 0 ≡ a
-    → ltb (length (slots (takenUp b (h .cursor .fill) (h .settings .block - h .cursor .fill)))) (h .settings .useful) ≡ c
-    → acceptorCloses h b n ≡ (o && (not a && c))
-acceptor-closes h b n o a c = rw (o, a, c)
 
 -- ---- how many remain, of the standing bits x
 pub remaining-of : {x b : Standing} {r : ℕ} → b ≡ x → r ≡ length (slots b) → length (slots x) - 1 ≡ r - 1

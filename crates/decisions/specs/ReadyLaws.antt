@@ -1,5 +1,5 @@
 -- What a call that may go on finds: no refusal of its table applies, as facts about the words.
-use mathlib.Core.Path.{_≡_, refl, subst⁻¹}
+use mathlib.Core.Path.{_≡_, refl, _∙_, subst⁻¹}
 use mathlib.Core.Bool.{false}
 use mathlib.Core.List.{List, []}
 use Prim.Native.Nat.{ℕ, _≤_}
@@ -13,7 +13,7 @@ use Rattle.layout.specs.Sizes.{headLen, layoutLen}
 use Rattle.layout.specs.Head.{headOf, badHead, headAnswer}
 use Rattle.layout.specs.HeadLaws.{HeadRead, head-read}
 use Rattle.layout.specs.OnWords.{fits-held}
-use Rattle.calls.specs.Refusals.{Test, timeTests, setOwn, clearOwn, setTests, clearTests}
+use Rattle.calls.specs.Refusals.{Test, refusal, timeTests, setOwn, clearOwn, setTests, clearTests}
 use Rattle.calls.specs.Step.{wordsRead}
 use Rattle.decisions.specs.declared.Verdict.the-variants.{Go}
 use Rattle.decisions.specs.Verdict.{verdict}
@@ -44,13 +44,15 @@ none-clear : {more : ℕ} {ws : List ℕ} {s tag : ℕ} → ReadyTime ws (headOf
 none-clear t (cons a (cons b (cons c (cons d nil)))) =
     record { time = t; has-tag = leb-false _ _ a; standing = eqb-false _ _ b; sound = c; room = d }
 
--- ---- a verdict to go on
+-- ---- where the first tests have passed, and the head was read
 module _ (ws : List ℕ) (s : ℕ) where
-  -- a clock move,
+  pub passed-time : {n : ℕ} {h : Head} → refusal (timeTests ws s []) ≡ n → n ≡ 0 → h ≡ headOf ws → ReadyTime ws h s
+  passed-time e z q =
+      subst⁻¹ (λ (x : Head). ReadyTime ws x s) q (none-time {l = []} (none-applies (numbers (timeTests ws s []) refl) (e ∙ z)) .0)
+
+  -- ---- a verdict to go on: a clock move,
   pub go-time : {h : Head} → verdict (timeTests ws s []) (headOf ws) ≡ Go h → ReadyTime ws h s
-  go-time {h} e =
-      let g = gone (timeTests ws s []) (headOf ws) h e in
-      subst⁻¹ (λ (x : Head). ReadyTime ws x s) (g .1) (none-time {l = []} (none-applies (numbers (timeTests ws s []) refl) (g .0)) .0)
+  go-time {h} e = let g = gone (timeTests ws s []) (headOf ws) h e in passed-time (g .0) refl (g .1)
 
   -- a set,
   pub go-set : (tag : ℕ) {h : Head} → verdict (setTests ws (wordsRead ws) s tag) (headOf ws) ≡ Go h → ReadySet ws h s tag

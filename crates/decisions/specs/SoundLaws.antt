@@ -1,7 +1,8 @@
 -- The tests of refusal 12 by their parts: where one decides, the rest may stay as they are (`refl`).
-use mathlib.Core.Path.{_≡_, sym, ap, ap₂, _∙_, subst, subst⁻¹}
+use mathlib.Core.Path.{_≡_, refl, sym, ap, _∙_, subst, subst⁻¹}
 use mathlib.Core.Logic.{_≢_}
 use mathlib.Core.Bool.{Bool, true, false, not, _&&_, _||_}
+use mathlib.Core.List.{List, [], _∷_}
 use Prim.Native.Nat.{ℕ, _+_, _^_, _≤_, _<_}
 use native.Mathlib.Omega.{arith}
 use lib.Dec.{eqb, ltb, leb}
@@ -16,10 +17,12 @@ use Rattle.layout.specs.Memory.{Memory}
 use Rattle.layout.specs.Head.{placed}
 use Rattle.layout.specs.HeadLaws.{SoundHead}
 use Rattle.layout.specs.Standing.{slots, stands, lowered, firstSlot, otherSlots}
-use Rattle.layout.specs.StandingLaws.{none, TwoWords, slots-empty, slots-next, other-words, other-fewer}
+use Rattle.layout.specs.StandingLaws as empty
+use Rattle.layout.specs.StandingLaws.{TwoWords, slots-empty, slots-next, other-words, other-fewer}
 use Rattle.calls.specs.Placing.{blockOf, slotOf}
-use Rattle.calls.specs.Refusals.{anyOf, bitsOf, tagBlock, closes, copies, acceptorCloses, afterClear, badPlace, badBlock, unsoundClear, blocksOut}
-use Rattle.decisions.specs.EffectLaws.{InPlace, in-place}
+use Rattle.calls.specs.Refusals.{Test, anyOf, opens, bitsOf, tagBlock, closes, copies, acceptorCloses, afterClear, badPlace, badBlock, unsoundSet, unsoundClear, blocksOut}
+use Rattle.decisions.specs.TestLaws.{First, hit, miss, none}
+use Rattle.decisions.specs.EffectLaws.{InPlace, in-place, fewWhenFull}
 
 -- the links of `badBlock`, and one of its slots
 unfoldable pub badLinks : Head → Memory → ℕ → Bool
@@ -29,6 +32,19 @@ badLinks h f n =
 
 unfoldable pub badSlot : Head → Memory → ℕ → ℕ → Bool
 badSlot h f n k = leb (h .settings .block) k || leb (h .settings .tags) (f (Slot n k tagWord))
+
+-- the acceptor, with standing bits b, is closed by a block that opens, and unsound
+unfoldable pub badAcceptor : Head → Memory → Standing → Bool
+badAcceptor h f b = (not (eqb (h .cursor .opened) 0) && fewWhenFull h b) && badBlock h f (h .cursor .opened)
+
+-- refusal 13 where a block opens, and refusals 12 and 13 of a clear
+abbrev pub outTest : Head → List Test
+outTest h = record { number = 13; applies = eqb (h .cursor .opened) (h .settings .blocks) } ∷ []
+
+abbrev pub endingTests : ℕ → Head → Memory → ℕ → List Test
+endingTests more h f tag =
+    record { number = 12; applies = unsoundClear h f more tag }
+    ∷ record { number = 13; applies = blocksOut h (copies h f (tagBlock h f tag) + more) } ∷ []
 
 -- not up to it is above it
 pub not-leb : (a b : ℕ) → ltb b a ≡ not (leb a b)
@@ -42,10 +58,10 @@ pub record Looked (p : ℕ → Bool) (all left : Standing) : Type 0 where
 pub look-begin : {p : ℕ → Bool} {all left : Standing} → left .low < 2 ^ 32 → left .high < 2 ^ 32 → left ≡ all → Looked p all left
 look-begin {p} l h e = record { words = record { low = l; high = h }; same = ap (λ (b : Standing). anyOf p (slots b)) e }
 
-pub look-none : {p : ℕ → Bool} {all left : Standing} → Looked p all left → none left ≡ true → false ≡ anyOf p (slots all)
+pub look-none : {p : ℕ → Bool} {all left : Standing} → Looked p all left → empty.none left ≡ true → false ≡ anyOf p (slots all)
 look-none {p} {all} {left} l e = let z : anyOf p (slots left) ≡ false = rw (slots-empty left e) in sym z ∙ l .same
 
-module _ {p : ℕ → Bool} {all left : Standing} {k : ℕ} (l : Looked p all left) (some : none left ≡ false) (first : k ≡ firstSlot left) where
+module _ {p : ℕ → Bool} {all left : Standing} {k : ℕ} (l : Looked p all left) (some : empty.none left ≡ false) (first : k ≡ firstSlot left) where
   -- the first has p, or the others are left
   next : {t : Bool} → p k ≡ t → anyOf p (slots left) ≡ (t || anyOf p (slots (otherSlots left)))
   next e = rw (slots-next left (l .words) some, ← first, e)
@@ -58,6 +74,15 @@ module _ {p : ℕ → Bool} {all left : Standing} {k : ℕ} (l : Looked p all le
 
   pub look-fewer : {rest : Standing} → rest ≡ otherSlots left → length (slots rest) < length (slots left)
   look-fewer q = rw q (omega (arith, other-fewer left (l .words) some))
+
+-- ---- refusal 13: where a block opens, its own test; else it does not apply
+pub out-opens : (h : Head) (i : ℕ) {r : ℕ} → opens h i ≡ true → First (outTest h) r → First (record { number = 13; applies = blocksOut h i } ∷ []) r
+unfolding blocksOut
+out-opens h i e g = record { is = rw e (g .is) }
+
+pub out-rests : (h : Head) (i : ℕ) → opens h i ≡ false → blocksOut h i ≡ false
+unfolding blocksOut
+out-rests h i e = rw e
 
 module _ (h : Head) (f : Memory) where
   -- ---- a block
@@ -84,33 +109,68 @@ module _ (h : Head) (f : Memory) where
     pub after-there : {b : Standing} → b ≡ bitsOf h f (h .cursor .opened) → n ≢ h .cursor .opened → b ≡ afterClear h f tag
     after-there e d = rw (← is, ← in-block, ne-eqb n (h .cursor .opened) d) e
 
+  -- ---- the acceptor, few standing or not
+  pub bad-acceptor : (b : Standing) {few : Bool} → 1 ≤ h .cursor .opened → fewWhenFull h b ≡ few
+      → badAcceptor h f b ≡ (few && badBlock h f (h .cursor .opened))
+  unfolding badAcceptor
+  bad-acceptor b a e = rw (ne-eqb (h .cursor .opened) 0 (λ z. omega arith), e)
+
+  -- ---- a set, where a block opens and where none does
+  pub set-opens : {b : Bool} → opens h 1 ≡ true → badAcceptor h f (bitsOf h f (h .cursor .opened)) ≡ b → unsoundSet h f ≡ b
+  unfolding badAcceptor unsoundSet
+  set-opens e g = rw e g
+
+  pub set-rests : opens h 1 ≡ false → unsoundSet h f ≡ false
+  unfolding unsoundSet
+  set-rests e = rw e
+
   -- ---- what a clear of the place p of a tag, in block n, needs
   module _ (more tag : ℕ) {p n : ℕ} (is : p ≡ f (Dir tag)) (in-block : n ≡ blockOf (h .settings) p) where
-    pub unsound-clear : {bits : Standing} {i : ℕ} → bits ≡ afterClear h f tag → i ≡ copies h f n + more → {a b c : Bool} → badPlace h f tag ≡ a
-        → (closes h f n && badBlock h f n) ≡ b → (acceptorCloses h bits i && badBlock h f (h .cursor .opened)) ≡ c
+    unsound-clear : {i : ℕ} → i ≡ copies h f n + more → {a b c : Bool} → badPlace h f tag ≡ a
+        → (closes h f n && badBlock h f n) ≡ b → (acceptorCloses h (afterClear h f tag) i && badBlock h f (h .cursor .opened)) ≡ c
         → unsoundClear h f more tag ≡ (a || b || c)
     unfolding unsoundClear
-    unsound-clear {bits} {i} e g {a} {b} {c} x =
+    unsound-clear {i} g {a} {b} {c} x =
         subst⁻¹ (λ (m : ℕ). i ≡ copies h f m + more → (closes h f m && badBlock h f m) ≡ b
-        → (acceptorCloses h bits i && badBlock h f (h .cursor .opened)) ≡ c → unsoundClear h f more tag ≡ (a || b || c))
+        → (acceptorCloses h (afterClear h f tag) i && badBlock h f (h .cursor .opened)) ≡ c → unsoundClear h f more tag ≡ (a || b || c))
         (in-block ∙ ap (blockOf (h .settings)) is)
         (λ k y z.
         let w : (acceptorCloses h (afterClear h f tag) (copies h f (tagBlock h f tag) + more) && badBlock h f (h .cursor .opened)) ≡ c =
-        ap₂ (λ (u : Standing) (v : ℕ). acceptorCloses h u v && badBlock h f (h .cursor .opened)) (sym e) (sym k) ∙ z in
+        ap (λ (v : ℕ). acceptorCloses h (afterClear h f tag) v && badBlock h f (h .cursor .opened)) (sym k) ∙ z in
         rw (x, y, w))
         g
 
-    -- and how many records it brings
-    pub blocks-out : {i : ℕ} {r : Bool} → i ≡ copies h f n + more → r ≡ blocksOut h i → blocksOut h (copies h f (tagBlock h f tag) + more) ≡ r
-    blocks-out {i} {r} e g =
-        subst (λ (m : ℕ). blocksOut h (copies h f m + more) ≡ r) (in-block ∙ ap (blockOf (h .settings)) is) (ap (blocksOut h) (sym e) ∙ sym g)
+    -- Its place is unsound, or the block that closes;
+    pub end-place : badPlace h f tag ≡ true → First (endingTests more h f tag) 12
+    end-place e = hit (unsound-clear refl e refl refl)
+
+    pub end-closing : badPlace h f tag ≡ false → (closes h f n && badBlock h f n) ≡ true → First (endingTests more h f tag) 12
+    end-closing e g = hit (unsound-clear refl e g refl)
+
+    module _ {i : ℕ} (brings : i ≡ copies h f n + more) (place : badPlace h f tag ≡ false) (closing : (closes h f n && badBlock h f n) ≡ false) where
+      -- the records that it brings, by its tag's block
+      brought : {r : ℕ} → First (record { number = 13; applies = blocksOut h i } ∷ []) r
+          → First (record { number = 13; applies = blocksOut h (copies h f (tagBlock h f tag) + more) } ∷ []) r
+      brought {r} =
+          subst (λ (m : ℕ). First (record { number = 13; applies = blocksOut h m } ∷ []) r)
+          (brings ∙ ap (λ (m : ℕ). copies h f m + more) (in-block ∙ ap (blockOf (h .settings)) is))
+
+      -- or the records that it brings open no block;
+      pub end-rests : opens h i ≡ false → First (endingTests more h f tag) 0
+      end-rests e = miss (unsound-clear brings place closing (rw e)) (brought (miss (out-rests h i e) none))
+
+      -- or they open one, and the acceptor is unsound, or only refusal 13 is left.
+      pub end-acceptor : opens h i ≡ true → badAcceptor h f (afterClear h f tag) ≡ true → First (endingTests more h f tag) 12
+      unfolding badAcceptor
+      end-acceptor e g = hit (unsound-clear brings place closing (rw e g))
+
+      pub end-out : {r : ℕ} → opens h i ≡ true → badAcceptor h f (afterClear h f tag) ≡ false → First (outTest h) r
+          → First (endingTests more h f tag) r
+      unfolding badAcceptor
+      end-out e g o = miss (unsound-clear brings place closing (rw e g)) (brought (out-opens h i e o))
 
   -- ---- a place that is sound is not above the records placed, and so lies in the store
   pub place-in : (tag : ℕ) {p : ℕ} → SoundHead h → p ≡ f (Dir tag) → 1 ≤ p → badPlace h f tag ≡ false → InPlace h p
   unfolding badPlace
   place-in tag {p} g e a b =
       in-place h p g a (rw e (ltb-false (placed h) (f (Dir tag)) (or-false (ltb (placed h) (f (Dir tag))) _ (or-false _ _ b .0) .0)))
-
-  pub sound-clear : (more tag : ℕ) → unsoundClear h f more tag ≡ false → badPlace h f tag ≡ false
-  unfolding unsoundClear
-  sound-clear more tag e = or-false (badPlace h f tag) _ (or-false _ _ e .0) .0

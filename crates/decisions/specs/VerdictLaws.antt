@@ -3,21 +3,21 @@ use mathlib.Core.Path.{_≡_, refl, sym, ap, _∙_}
 use mathlib.Core.Logic.{_≢_}
 use mathlib.Core.Bool.{false, cond}
 use mathlib.Core.List.{List, [], _∷_}
-use Prim.Native.Nat.{ℕ}
+use Prim.Native.Nat.{ℕ, _≤_}
 use native.Mathlib.Omega.{arith}
 use lib.Dec.{ltb}
 use lib.ListN.{length}
-use borrow.Author.Tests.{ne-eqb}
+use borrow.Author.Tests.{ne-eqb, ltb-false}
 use Rattle.base.specs.Branch.{by-test, by-eqb}
+use Rattle.base.specs.Sums.{cons}
 use Rattle.layout.specs.declared.head.Head.{Head}
-use Rattle.layout.specs.declared.head.HeadAnswer.the-variants as answer
 use Rattle.layout.specs.Sizes.{headLen}
-use Rattle.layout.specs.Head.{headOf, badHead, headAnswer}
+use Rattle.layout.specs.Head.{headOf, badHead, headRefusal}
 use Rattle.calls.specs.Refusals.{Test, refusal, timeTests}
 use Rattle.decisions.specs.declared.Verdict.{Verdict}
 use Rattle.decisions.specs.declared.Verdict.the-variants.{Go, Refused}
 use Rattle.decisions.specs.Verdict.{ruled, verdict, timeOwn}
-use Rattle.decisions.specs.TestLaws.{First, numbers, none-applies, none-first, first-stays}
+use Rattle.decisions.specs.TestLaws.{First, NoneApplies, numbers, none-applies, none-first, first-stays}
 
 -- ---- a verdict and its refusal number
 pub verdict-is : {l : List Test} {r : ℕ} (h : Head) → First l r → ruled r h ≡ verdict l h
@@ -44,49 +44,53 @@ pub refused-by : (l : List Test) {n : ℕ} (h : Head) → refusal l ≡ n → n 
 unfolding ruled verdict
 refused-by l {n} h e d = rw (e, ne-eqb n 0 d)
 
+pub gone-by : (l : List Test) {h g : Head} → refusal l ≡ 0 → g ≡ h → Go g ≡ verdict l h
+unfolding ruled verdict
+gone-by l e q = rw (e, q)
+
 -- ---- the head first
 module _ (ws : List ℕ) (s : ℕ) where
-  pub head-refused : {n : ℕ} (l : List Test) → headAnswer ws ≡ answer.Refused n → Refused n ≡ verdict (timeTests ws s l) (headOf ws)
-  unfolding headAnswer
+  -- where its refusal is n, not 0, so is that of every table;
+  pub head-refused : {n : ℕ} (l : List Test) → n ≡ headRefusal ws → n ≢ 0 → First (timeTests ws s l) n
   head-refused {n} l = by-test (ltb (length ws) headLen)
-      (λ t. cond t (answer.Refused 2) (cond (badHead ws) (answer.Refused 3) (answer.Read (headOf ws))) ≡ answer.Refused n
-      → Refused n ≡ verdict (record { number = 2; applies = t } ∷ record { number = 3; applies = badHead ws } ∷ timeOwn (headOf ws) ws s l) (headOf ws))
-      (λ a e. let z : 2 ≡ n = cc in refused-by _ (headOf ws) z (λ d. omega arith))
+      (λ t. n ≡ cond t 2 (cond (badHead ws) 3 0) → n ≢ 0
+      → First (record { number = 2; applies = t } ∷ record { number = 3; applies = badHead ws } ∷ timeOwn (headOf ws) ws s l) n)
+      (λ a e d. record { is = sym e })
       (λ a. by-test (badHead ws)
-      (λ t. cond t (answer.Refused 3) (answer.Read (headOf ws)) ≡ answer.Refused n
-      → Refused n ≡ verdict (record { number = 2; applies = false } ∷ record { number = 3; applies = t } ∷ timeOwn (headOf ws) ws s l) (headOf ws))
-      (λ b e. let z : 3 ≡ n = cc in refused-by _ (headOf ws) z (λ d. omega arith))
-      (λ b e. let z : _≡_ {A = ℕ} 0 1 = cc in absurd (omega arith)))
+      (λ t. n ≡ cond t 3 0 → n ≢ 0
+      → First (record { number = 2; applies = false } ∷ record { number = 3; applies = t } ∷ timeOwn (headOf ws) ws s l) n)
+      (λ b e d. record { is = sym e })
+      (λ b e d. absurd (d e)))
 
-  head-tests : {h : Head} → headAnswer ws ≡ answer.Read h → (ltb (length ws) headLen ≡ false) × (badHead ws ≡ false) × (h ≡ headOf ws)
-  unfolding headAnswer
-  head-tests {h} = by-test (ltb (length ws) headLen)
-      (λ t. cond t (answer.Refused 2) (cond (badHead ws) (answer.Refused 3) (answer.Read (headOf ws))) ≡ answer.Read h
-      → (t ≡ false) × (badHead ws ≡ false) × (h ≡ headOf ws))
-      (λ a e. let z : _≡_ {A = ℕ} 0 1 = cc in absurd (omega arith))
+  -- where it is 0, the other tests are looked at.
+  pub head-passed : {n r : ℕ} {h : Head} (l : List Test) → n ≡ headRefusal ws → n ≡ 0 → h ≡ headOf ws → First (timeOwn h ws s l) r
+      → First (timeTests ws s l) r
+  head-passed {n} {r} {h} l = by-test (ltb (length ws) headLen)
+      (λ t. n ≡ cond t 2 (cond (badHead ws) 3 0) → n ≡ 0 → h ≡ headOf ws → First (timeOwn h ws s l) r
+      → First (record { number = 2; applies = t } ∷ record { number = 3; applies = badHead ws } ∷ timeOwn (headOf ws) ws s l) r)
+      (λ a e z. absurd (omega arith))
       (λ a. by-test (badHead ws)
-      (λ t. cond t (answer.Refused 3) (answer.Read (headOf ws)) ≡ answer.Read h → (false ≡ false) × (t ≡ false) × (h ≡ headOf ws))
-      (λ b e. let z : _≡_ {A = ℕ} 0 1 = cc in absurd (omega arith))
-      (λ b e. (refl, refl, cc)))
+      (λ t. n ≡ cond t 3 0 → n ≡ 0 → h ≡ headOf ws → First (timeOwn h ws s l) r
+      → First (record { number = 2; applies = false } ∷ record { number = 3; applies = t } ∷ timeOwn (headOf ws) ws s l) r)
+      (λ b e z. absurd (omega arith))
+      (λ b e z q f. record { is = ap (λ (x : Head). refusal (timeOwn x ws s l)) (sym q) ∙ f .is }))
 
-  pub head-passed : {h : Head} {r : ℕ} {v : Verdict} (l : List Test) → headAnswer ws ≡ answer.Read h → First (timeOwn h ws s l) r → v ≡ ruled r h
-      → v ≡ verdict (timeTests ws s l) (headOf ws)
-  head-passed {h} {r} {v} l e f g =
-      let t = head-tests e in
-      let q : First (timeTests ws s l) r = record { is = rw (t .0, t .1, ← (t .2)) (f .is) } in
-      g ∙ ap (ruled r) (t .2) ∙ verdict-is (headOf ws) q
+  -- A store that no test turns away has a head.
+  pub has-head : {r : ℕ} → First (timeTests ws s []) r → r ≡ 0 → headLen ≤ length ws
+  has-head e z = long (none-applies (numbers (timeTests ws s []) refl) (e .is ∙ z))
+    where
+      long : {l : List Test} → NoneApplies (record { number = 2; applies = ltb (length ws) headLen } ∷ l) → headLen ≤ length ws
+      long (cons a n) = ltb-false (length ws) headLen a
 
   -- ---- then the second, then what is a change's own
-  pub time-refused : {n : ℕ} (l : List Test) → verdict (timeTests ws s []) (headOf ws) ≡ Refused n → Refused n ≡ verdict (timeTests ws s l) (headOf ws)
-  time-refused {n} l e =
-      let r = refused (timeTests ws s []) (headOf ws) n e in
-      refused-by (timeTests ws s l) (headOf ws) (first-stays (timeTests ws s []) l (λ z. r .1 (sym (r .0) ∙ z)) ∙ r .0) (r .1)
+  pub time-refused : {n : ℕ} (l : List Test) → First (timeTests ws s []) n → n ≢ 0 → Refused n ≡ verdict (timeTests ws s l) (headOf ws)
+  time-refused l e d =
+      refused-by (timeTests ws s l) (headOf ws) (first-stays (timeTests ws s []) l (λ z. d (sym (e .is) ∙ z)) ∙ e .is) d
 
-  pub time-passed : {h : Head} {r : ℕ} {v : Verdict} (own : Head → List Test) → verdict (timeTests ws s []) (headOf ws) ≡ Go h → First (own h) r
+  pub time-passed : {n r : ℕ} {h : Head} {v : Verdict} (own : Head → List Test) → First (timeTests ws s []) n → n ≡ 0 → h ≡ headOf ws → First (own h) r
       → v ≡ ruled r h → v ≡ verdict (timeTests ws s (own (headOf ws))) (headOf ws)
-  time-passed {h} {r} {v} own e f g =
-      let p = gone (timeTests ws s []) (headOf ws) h e in
+  time-passed {r = r} own e z p f g =
       let q : First (timeTests ws s (own (headOf ws))) r = record {
-        is = none-first (own (headOf ws)) (none-applies (numbers (timeTests ws s []) refl) (p .0)) ∙ ap (λ (x : Head). refusal (own x)) (sym (p .1)) ∙ f .is;
+        is = none-first (own (headOf ws)) (none-applies (numbers (timeTests ws s []) refl) (e .is ∙ z)) ∙ ap (λ (x : Head). refusal (own x)) (sym p) ∙ f .is;
       } in
-      g ∙ ap (ruled r) (p .1) ∙ verdict-is (headOf ws) q
+      g ∙ ap (ruled r) p ∙ verdict-is (headOf ws) q

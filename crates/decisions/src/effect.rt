@@ -7,10 +7,12 @@ use layout::settings::Settings;
 use layout::standing::Standing;
 ghost use mathlib.Core.Path.{_≡_};
 ghost use Prim.Native.Nat.{_+_, _-_, _≤_};
+ghost use lib.Dec.{eqb};
 ghost use Rattle.layout.specs.Address.{Numbered};
 ghost use Rattle.layout.specs.HeadLaws.{SoundHead};
-ghost use Rattle.calls.specs.Refusals.{opens, takenUp, acceptorCloses, bitsOf, remaining, closes, copies, blocksOut};
+ghost use Rattle.calls.specs.Refusals.{opens, takenUp, bitsOf, remaining, closes, copies};
 ghost use Rattle.decisions.specs.Ready.{wordsOf, Ready};
+ghost use Rattle.decisions.specs.EffectLaws.{fewWhenFull};
 
 // The standing bits of block n.
 pub(crate) fn bits_of(store: &[u32], h: Head, n: u32) -> Standing
@@ -71,7 +73,7 @@ pub(crate) fn incoming(store: &[u32], h: Head, n: u32, more: u32) -> u32
 }
 
 // Incoming records open a block if there are any and the acceptor has no room for all of them.
-fn opens(h: Head, incoming: u32) -> bool
+pub(crate) fn opens(h: Head, incoming: u32) -> bool
     requires { ⌜ SoundHead h ⌝ }
     ensures { λ r. ⌜ r ≡ opens h incoming ⌝ }
 {
@@ -98,28 +100,18 @@ fn taken_up(b: Standing, from: u32, to: u32) -> Standing
     taken
 }
 
-// The acceptor, with standing bits b, closes: a block opens, and fewer than q stand once its free slots are taken.
-pub(crate) fn acceptor_closes(h: Head, b: Standing, incoming: u32) -> bool
+// The acceptor, with standing bits b, has fewer than q standing once its free slots are taken. It is judged so when a block opens.
+pub(crate) fn few_when_full(h: Head, b: Standing) -> bool
     requires { ⌜ SoundHead h ⌝ }
-    ensures { λ r. ⌜ r ≡ acceptorCloses h b incoming ⌝ }
+    ensures { λ r. ⌜ r ≡ fewWhenFull h b ⌝ }
 {
-    if !opens(h, incoming) {
-        return false;
-    }
-    if h.cursor.opened == 0 {
-        return false;
-    }
     let full = taken_up(b, h.cursor.fill, h.settings.block);
     full.count() < h.settings.useful
 }
 
-// Refusal 13: a block would open, and N = B.
-pub(crate) fn blocks_out(h: Head, incoming: u32) -> bool
-    requires { ⌜ SoundHead h ⌝ }
-    ensures { λ r. ⌜ r ≡ blocksOut h incoming ⌝ }
+// No block is left to open: N = B.
+pub(crate) fn all_opened(h: Head) -> bool
+    ensures { λ r. ⌜ r ≡ eqb (h .cursor .opened) (h .settings .blocks) ⌝ }
 {
-    if !opens(h, incoming) {
-        return false;
-    }
     h.cursor.opened == h.settings.blocks
 }

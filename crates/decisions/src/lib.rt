@@ -7,7 +7,6 @@ mod start;
 
 use layout::head;
 use layout::head::Head;
-use layout::head::HeadAnswer;
 use layout::refusal;
 pub use start::StartVerdict;
 pub use start::decide_start;
@@ -54,59 +53,52 @@ fn time_refusal(store: &[u32], h: Head, second: u32) -> u32
     0
 }
 
-// A clock move: refusals 2 to 6, which are the first of every change.
+// Refusals 2 to 6, the first of every change: 0 if none applies.
+fn first_refusal(store: &[u32], second: u32) -> u32
+    ensures { λ r. ⌜ First (timeTests (now (store .entry)) second []) r ⌝ }
+{
+    let n = head::head_refusal(store);
+    if n != 0 {
+        return n;
+    }
+    let h = head::head_of(store);
+    time_refusal(store, h, second)
+}
+
+// A clock move: refusals 2 to 6. (Tests answer a number, and the head is read after them: no head is handed from one function to the next.)
 pub fn decide_advance(store: &[u32], second: u32) -> Verdict
     ensures { λ r. ⌜ r ≡ verdict (timeTests (now (store .entry)) second []) (headOf (now (store .entry))) ⌝ }
 {
-    let answer = head::read_head(store);
-    match answer {
-        HeadAnswer::Refused(n) => Verdict::Refused(n),
-        HeadAnswer::Read(h) => {
-            let n = time_refusal(store, h, second);
-            ruled(h, n)
-        }
+    let n = first_refusal(store, second);
+    if n != 0 {
+        return Verdict::Refused(n);
     }
+    Verdict::Go(head::head_of(store))
 }
 
 // A set: refusals 2 to 6, then 8, 9, 12 and 13.
 pub fn decide_set(store: &[u32], second: u32, tag: u32) -> Verdict
     ensures { λ r. ⌜ r ≡ verdict (setTests (now (store .entry)) (wordsRead (now (store .entry))) second tag) (headOf (now (store .entry))) ⌝ }
 {
-    let time = decide_advance(store, second);
-    match time {
-        Verdict::Refused(n) => Verdict::Refused(n),
-        Verdict::Go(h) => {
-            let n = own::set_refusal(store, h, tag);
-            ruled(h, n)
-        }
+    let n = first_refusal(store, second);
+    if n != 0 {
+        return Verdict::Refused(n);
     }
+    let h = head::head_of(store);
+    let m = own::set_refusal(store, h, tag);
+    ruled(h, m)
 }
 
-// A clear (more = 0) or a new reading (more = 1): refusals 2 to 6, then 8, 10, 12 and 13.
-fn decide_clearing(store: &[u32], second: u32, tag: u32, more: u32) -> Verdict
+// A clear (more = 0: it places copies only) or a new reading (more = 1: it places its record besides): refusals 2 to 6, then 8, 10, 12 and 13.
+pub fn decide_clearing(store: &[u32], second: u32, tag: u32, more: u32) -> Verdict
     requires { ⌜ more ≤ 1 ⌝ }
     ensures { λ r. ⌜ r ≡ verdict (clearTests more (now (store .entry)) (wordsRead (now (store .entry))) second tag) (headOf (now (store .entry))) ⌝ }
 {
-    let time = decide_advance(store, second);
-    match time {
-        Verdict::Refused(n) => Verdict::Refused(n),
-        Verdict::Go(h) => {
-            let n = own::clear_refusal(store, h, tag, more);
-            ruled(h, n)
-        }
+    let n = first_refusal(store, second);
+    if n != 0 {
+        return Verdict::Refused(n);
     }
-}
-
-// A clear places copies only.
-pub fn decide_clear(store: &[u32], second: u32, tag: u32) -> Verdict
-    ensures { λ r. ⌜ r ≡ verdict (clearTests 0 (now (store .entry)) (wordsRead (now (store .entry))) second tag) (headOf (now (store .entry))) ⌝ }
-{
-    decide_clearing(store, second, tag, 0)
-}
-
-// A new reading places its record besides.
-pub fn decide_update(store: &[u32], second: u32, tag: u32) -> Verdict
-    ensures { λ r. ⌜ r ≡ verdict (clearTests 1 (now (store .entry)) (wordsRead (now (store .entry))) second tag) (headOf (now (store .entry))) ⌝ }
-{
-    decide_clearing(store, second, tag, 1)
+    let h = head::head_of(store);
+    let m = own::clear_refusal(store, h, tag, more);
+    ruled(h, m)
 }

@@ -10,13 +10,13 @@ ghost use mathlib.Core.Bool.{_&&_};
 ghost use Prim.Native.Nat.{_≤_};
 ghost use Rattle.layout.specs.Address.{Numbered};
 ghost use Rattle.layout.specs.Standing.{slots};
-ghost use Rattle.calls.specs.Refusals.{anyOf, bitsOf, closes, acceptorCloses, afterClear, badPlace, badBlock, unsoundSet, unsoundClear};
+ghost use Rattle.calls.specs.Refusals.{anyOf, bitsOf, closes, afterClear, badPlace, badBlock};
 ghost use Rattle.decisions.specs.Ready.{wordsOf, Ready, PlaceOf};
 ghost use Rattle.decisions.specs.EffectLaws.{InPlace};
-ghost use Rattle.decisions.specs.SoundLaws.{badLinks, badSlot};
+ghost use Rattle.decisions.specs.SoundLaws.{badLinks, badSlot, badAcceptor};
 
 // The place p of a tag is above the records placed, or its record has another tag or no standing bit.
-fn place_is_bad(store: &[u32], h: Head, tag: u32, p: u32) -> bool
+pub(crate) fn place_is_bad(store: &[u32], h: Head, tag: u32, p: u32) -> bool
     requires { ⌜ Ready (now store) h ⌝ }
     requires { ⌜ PlaceOf h (now store) tag p ⌝ }
     ensures { λ r. ⌜ r ≡ badPlace h (wordsOf h (now (store .entry))) tag ⌝ }
@@ -91,28 +91,28 @@ fn block_is_bad(store: &[u32], h: Head, n: u32) -> bool
     slots_are_bad(store, h, n)
 }
 
-// The acceptor, with standing bits b, closes and is unsound.
-fn acceptor_is_bad(store: &[u32], h: Head, b: Standing, incoming: u32) -> bool
+// The acceptor, with standing bits b, closes where a block opens, and is unsound.
+fn acceptor_is_bad(store: &[u32], h: Head, b: Standing) -> bool
     requires { ⌜ Ready (now store) h ⌝ }
     requires { ⌜ 1 ≤ h .cursor .opened ⌝ }
-    ensures { λ r. ⌜ r ≡ (acceptorCloses h b incoming && badBlock h (wordsOf h (now (store .entry))) (h .cursor .opened)) ⌝ }
+    ensures { λ r. ⌜ r ≡ badAcceptor h (wordsOf h (now (store .entry))) b ⌝ }
 {
-    if !effect::acceptor_closes(h, b, incoming) {
+    if !effect::few_when_full(h, b) {
         return false;
     }
     block_is_bad(store, h, h.cursor.opened)
 }
 
-// A set closes no block but the acceptor.
-pub(crate) fn unsound_set(store: &[u32], h: Head) -> bool
+// The acceptor as a set finds it. (A set closes no other block.)
+pub(crate) fn unsound_for_set(store: &[u32], h: Head) -> bool
     requires { ⌜ Ready (now store) h ⌝ }
-    ensures { λ r. ⌜ r ≡ unsoundSet h (wordsOf h (now (store .entry))) ⌝ }
+    ensures { λ r. ⌜ r ≡ badAcceptor h (wordsOf h (now (store .entry))) (bitsOf h (wordsOf h (now (store .entry))) (h .cursor .opened)) ⌝ }
 {
     if h.cursor.opened == 0 {
         return false;
     }
     let b = effect::bits_of(store, h, h.cursor.opened);
-    acceptor_is_bad(store, h, b, 1)
+    acceptor_is_bad(store, h, b)
 }
 
 // The acceptor's standing bits, with the record at place p ended if it lies there.
@@ -129,8 +129,19 @@ fn after_clear(store: &[u32], h: Head, tag: u32, p: u32) -> Standing
     b
 }
 
+// The acceptor as a clear of the tag at place p leaves it.
+pub(crate) fn unsound_after_clear(store: &[u32], h: Head, tag: u32, p: u32) -> bool
+    requires { ⌜ Ready (now store) h ⌝ }
+    requires { ⌜ PlaceOf h (now store) tag p ⌝ }
+    requires { ⌜ InPlace h p ⌝ }
+    ensures { λ r. ⌜ r ≡ badAcceptor h (wordsOf h (now (store .entry))) (afterClear h (wordsOf h (now (store .entry))) tag) ⌝ }
+{
+    let b = after_clear(store, h, tag, p);
+    acceptor_is_bad(store, h, b)
+}
+
 // A block n closes by a clear in it, and is unsound.
-fn closing_is_bad(store: &[u32], h: Head, n: u32) -> bool
+pub(crate) fn closing_is_bad(store: &[u32], h: Head, n: u32) -> bool
     requires { ⌜ Ready (now store) h ⌝ }
     requires { ⌜ Numbered (h .settings) n ⌝ }
     ensures { λ r. ⌜ r ≡ (closes h (wordsOf h (now (store .entry))) n && badBlock h (wordsOf h (now (store .entry))) n) ⌝ }
@@ -139,23 +150,4 @@ fn closing_is_bad(store: &[u32], h: Head, n: u32) -> bool
         return false;
     }
     block_is_bad(store, h, n)
-}
-
-// A clear (more = 0) or a new reading (more = 1) of the tag at place p.
-pub(crate) fn unsound_clear(store: &[u32], h: Head, tag: u32, p: u32, more: u32) -> bool
-    requires { ⌜ Ready (now store) h ⌝ }
-    requires { ⌜ PlaceOf h (now store) tag p ⌝ }
-    requires { ⌜ more ≤ 1 ⌝ }
-    ensures { λ r. ⌜ r ≡ unsoundClear h (wordsOf h (now (store .entry))) more tag ⌝ }
-{
-    if place_is_bad(store, h, tag, p) {
-        return true;
-    }
-    let n = places::block_of(h.settings, p);
-    if closing_is_bad(store, h, n) {
-        return true;
-    }
-    let b = after_clear(store, h, tag, p);
-    let incoming = effect::incoming(store, h, n, more);
-    acceptor_is_bad(store, h, b, incoming)
 }

@@ -56,6 +56,10 @@ badHead ws =
     not (eqb (getD ws headMark 0) mark) || not (inLimits (h .settings)) || ltb (h .settings .blocks) (h .cursor .opened)
     || eqb (h .cursor .clock) OPEN || not (spareZero ws) || not (fillFits h)
 
+-- refusal 2 or 3 of a head, 0 for none
+abbrev pub headRefusal : List ℕ → ℕ
+headRefusal ws = cond (ltb (length ws) headLen) 2 (cond (badHead ws) 3 0)
+
 -- what reading the head answers: refusal 2, refusal 3, or the head
 unfoldable pub headAnswer : List ℕ → HeadAnswer
 headAnswer ws = cond (ltb (length ws) headLen) (Refused 2) (cond (badHead ws) (Refused 3) (Read (headOf ws)))

@@ -1,5 +1,6 @@
 -- What a head that was read is known to be.
-use mathlib.Core.Path.{_≡_, refl}
+use mathlib.Core.Path.{_≡_, refl, ap}
+use mathlib.Core.Logic.{_≢_}
 use mathlib.Core.Bool.{Bool, true, false, cond, not, _&&_, _||_}
 use mathlib.Core.List.{List}
 use Prim.Native.Nat.{ℕ, _+_, _*_, _-_, _≤_, _<_}
@@ -15,7 +16,7 @@ use Rattle.layout.specs.Sizes.{OPEN, mark, headLen}
 use Rattle.layout.specs.Fields.{headMark, headSpare}
 use Rattle.layout.specs.Settings.{inLimits, Within}
 use Rattle.layout.specs.SettingsLaws.{limits-within, within-limits}
-use Rattle.layout.specs.Head.{headOf, headWords, withHead, fillFits, spareZero, badHead, headAnswer}
+use Rattle.layout.specs.Head.{headOf, headWords, withHead, fillFits, spareZero, badHead, headRefusal, headAnswer}
 
 -- a head within its limits: settings, blocks opened, clock, and the fill rule (0 for N = 0, else 1 to b)
 pub record SoundHead (h : Head) : Type 0 where
@@ -116,6 +117,29 @@ module _ (ws : List ℕ) where
       let b : badHead ws ≡ false = bad-head ws (r .is) (eq-eqb _ _ (r .marked)) (within-limits _ (g .within)) (le-ltb _ _ (g .opened))
       (ne-eqb (h .cursor .clock) OPEN (λ e. omega arith)) (r .spare) (rule-fill h g) in
       simp (le-ltb _ _ (r .long), b, ← (r .is))
+
+  -- The answer by the refusal's number: a refusal,
+  pub answer-refused : {n : ℕ} → n ≡ headRefusal ws → n ≢ 0 → Refused n ≡ headAnswer ws
+  unfolding headAnswer
+  answer-refused {n} = by-test (ltb (length ws) headLen)
+      (λ t. n ≡ cond t 2 (cond (badHead ws) 3 0) → n ≢ 0 → Refused n ≡ cond t (Refused 2) (cond (badHead ws) (Refused 3) (Read (headOf ws))))
+      (λ a e d. ap Refused e)
+      (λ a. by-test (badHead ws)
+      (λ t. n ≡ cond t 3 0 → n ≢ 0 → Refused n ≡ cond t (Refused 3) (Read (headOf ws)))
+      (λ b e d. ap Refused e)
+      (λ b e d. absurd (d e)))
+
+  -- or the head of a store that is long enough.
+  pub answer-read : {n : ℕ} → n ≡ headRefusal ws → n ≡ 0 → (headLen ≤ length ws) × (Read (headOf ws) ≡ headAnswer ws)
+  unfolding headAnswer
+  answer-read {n} = by-test (ltb (length ws) headLen)
+      (λ t. n ≡ cond t 2 (cond (badHead ws) 3 0) → n ≡ 0
+      → (headLen ≤ length ws) × (Read (headOf ws) ≡ cond t (Refused 2) (cond (badHead ws) (Refused 3) (Read (headOf ws)))))
+      (λ a e z. absurd (omega arith))
+      (λ a. by-test (badHead ws)
+      (λ t. n ≡ cond t 3 0 → n ≡ 0 → (headLen ≤ length ws) × (Read (headOf ws) ≡ cond t (Refused 3) (Read (headOf ws))))
+      (λ b e z. absurd (omega arith))
+      (λ b e z. (ltb-false _ _ a, refl)))
 
 -- A sound head that is written is read back.
 pub head-written : (h : Head) (ws : List ℕ) → SoundHead h → headLen ≤ length ws → HeadRead (withHead h ws) h

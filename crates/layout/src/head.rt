@@ -11,7 +11,7 @@ ghost use Prim.Native.Nat.{_≤_, _<_};
 ghost use lib.ListN.{length};
 ghost use Rattle.layout.specs.Sizes.{headLen, layoutLen};
 ghost use Rattle.layout.specs.Settings.{Within};
-ghost use Rattle.layout.specs.Head.{headOf, withHead, cleared, fillFits, spareZero, badHead, headAnswer, placed};
+ghost use Rattle.layout.specs.Head.{headOf, withHead, cleared, fillFits, spareZero, badHead, headRefusal, headAnswer, placed};
 ghost use Rattle.layout.specs.HeadLaws.{SoundHead};
 ghost use Rattle.layout.specs.Cursor.{at, filled, grown, relinked, storeCursor};
 ghost use Rattle.layout.specs.Ran.{Ran};
@@ -143,7 +143,7 @@ impl Head {
 }
 
 // The head that the words hold, right or wrong.
-fn head_of(store: &[u32]) -> Head
+pub fn head_of(store: &[u32]) -> Head
     requires { ⌜ headLen ≤ length (now store) ⌝ }
     ensures { λ r. ⌜ r ≡ headOf (now (store .entry)) ⌝ }
 {
@@ -210,15 +210,26 @@ fn bad_head(store: &[u32]) -> bool
     !h.fill_fits()
 }
 
-// The head, or refusal 2 for a store that has none, or refusal 3.
+// Refusal 2 for a store that has no head, refusal 3 for a bad one, else 0: then the head is `head_of`.
+pub fn head_refusal(store: &[u32]) -> u32
+    ensures { λ r. ⌜ r ≡ headRefusal (now (store .entry)) ⌝ }
+{
+    if store.len() < sizes::HEAD_LEN {
+        return refusal::SHORT_HEAD;
+    }
+    if bad_head(store) {
+        return refusal::HEAD;
+    }
+    0
+}
+
+// The head, or its refusal, as one value.
 pub fn read_head(store: &[u32]) -> HeadAnswer
     ensures { λ r. ⌜ r ≡ headAnswer (now (store .entry)) ⌝ }
 {
-    if store.len() < sizes::HEAD_LEN {
-        return HeadAnswer::Refused(refusal::SHORT_HEAD);
-    }
-    if bad_head(store) {
-        return HeadAnswer::Refused(refusal::HEAD);
+    let n = head_refusal(store);
+    if n != 0 {
+        return HeadAnswer::Refused(n);
     }
     HeadAnswer::Read(head_of(store))
 }

@@ -64,11 +64,11 @@ fn lower_off(x: u32) -> u32
 }
 
 impl Standing {
-    // How many slots stand.
+    // How many slots stand: the ones of both words, counted as one word of 64 bits.
     pub fn count(self) -> u32
         ensures { λ r. ⌜ r ≡ length (slots self) ⌝ }
     {
-        u32::count_ones(self.low) + u32::count_ones(self.high)
+        u64::count_ones(self.high as u64 * 4294967296 + self.low as u64)
     }
 
     // Slot k stands.

@@ -1,7 +1,7 @@
 // Places, which the directory keeps and which decisions and placing read: slot k (from 0) of block n has place (n - 1) * b + k + 1.
 use layout::settings::Settings;
 ghost use mathlib.Core.Path.{_≡_};
-ghost use Prim.Native.Nat.{_-_};
+ghost use Prim.Native.Nat.{_≤_};
 ghost use Rattle.layout.specs.Settings.{Within};
 ghost use Rattle.calls.specs.Placing.{placeOf, blockOf, slotOf};
 ghost use Rattle.places.specs.Spot.{Spot};
@@ -14,29 +14,21 @@ pub fn place_of(s: Settings, n: u32, k: u32) -> u32
     (n - 1) * s.block + k + 1
 }
 
-// How many places come before one. (Place 0 is none; no call that is accepted comes with it.)
-fn earlier(place: u32) -> u32
-    ensures { λ r. ⌜ r ≡ place - 1 ⌝ }
-{
-    if place == 0 {
-        return 0;
-    }
-    place - 1
-}
-
-// The block of a place.
+// The block of a place. (Place 0 is none.)
 pub fn block_of(s: Settings, place: u32) -> u32
     requires { ⌜ Within s ⌝ }
+    requires { ⌜ 1 ≤ place ⌝ }
     ensures { λ r. ⌜ r ≡ blockOf s place ⌝ }
 {
-    let full = earlier(place) / s.block;
+    let full = (place - 1) / s.block;
     full + 1
 }
 
 // The slot of a place.
 pub fn slot_of(s: Settings, place: u32) -> u32
     requires { ⌜ Within s ⌝ }
+    requires { ⌜ 1 ≤ place ⌝ }
     ensures { λ r. ⌜ r ≡ slotOf s place ⌝ }
 {
-    earlier(place) % s.block
+    (place - 1) % s.block
 }

@@ -1,5 +1,5 @@
 -- What a program that may run on the words tells of the blocks, slots and tags that it meets.
-use mathlib.Core.Path.{refl}
+use mathlib.Core.Path.{refl, subst}
 use mathlib.Core.Logic.{_≢_}
 use mathlib.Core.List.{List}
 use Prim.Native.Nat.{ℕ, _+_, _*_, _-_, _≤_, _<_}
@@ -19,6 +19,7 @@ use Rattle.layout.specs.OnWords.{over, Held}
 use Rattle.layout.specs.Able.{Able, able-held, able-first, able-next, able-passed, able-get, able-set, able-wipe}
 use Rattle.calls.specs.Placing.{openBlock, unlink, endRecord, putRecord}
 use Rattle.places.specs.Spot.{Spot}
+use Rattle.placing.specs.Steps.{Listed}
 
 -- ---- a program that may run does run, and what comes after it may run
 ran-able : {A : Type 0} {s : Settings} {p : Prog A} {ws : List ℕ} → Able s p ws → Ran (over s) p ws ((run (over s) p ws) .0) ((run (over s) p ws) .1)
@@ -78,3 +79,7 @@ unlink-links c x now {up} {right} a u r =
       above = λ h. (able-get (Field up childWord) (able-first (able-passed (ne-eqb up 0 h) (able-rest d)))) .0;
       beside = (able-set (Field right upWord) (able-first d)) .0;
     }
+
+-- ---- a place that is read from the directory of a listed tag is not 0
+pub listed-place : {s : Settings} {ws us : List ℕ} {tag r : ℕ} → Listed s ws tag → Ran (over s) (get! (Dir tag)) ws r us → 1 ≤ r
+listed-place l r = subst (λ (x : ℕ). 1 ≤ x) (r .value) (l .some)

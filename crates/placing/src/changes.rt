@@ -9,11 +9,13 @@ use layout::settings::Settings;
 ghost use Rattle.layout.specs.Ran.{Ran};
 ghost use Rattle.layout.specs.Able.{Able};
 ghost use Rattle.layout.specs.OnWords.{over};
-ghost use Rattle.calls.specs.Placing.{clearTag, finish, setProgram, clearProgram, updateProgram, advanceProgram};
+ghost use Rattle.calls.specs.Placing.{clearTag, finish, setProgram, advanceProgram};
+ghost use Rattle.placing.specs.Steps.{Listed, clearingProgram};
 
 // A tag's standing record ends and the directory forgets it; its block, if it is not the acceptor, is judged.
 fn clear_tag(store: &mut [u32], s: Settings, c: Cursor, second: u32, tag: u32) -> Cursor
     requires { ⌜ Able s (clearTag s c second tag) (now store) ⌝ }
+    requires { ⌜ Listed s (now store) tag ⌝ }
     ensures { λ r. ⌜ Ran (over s) (clearTag s c second tag) (now (store .entry)) r (now (store .exit)) ⌝ }
 {
     let place = address::read(store, s, Address::Dir(tag));
@@ -53,28 +55,24 @@ pub fn set_program(
     finish(store, s, d, second)
 }
 
-// A tag is cleared.
-pub fn clear_program(store: &mut [u32], s: Settings, c: Cursor, second: u32, tag: u32) -> Cursor
-    requires { ⌜ Able s (clearProgram s c second tag) (now store) ⌝ }
-    ensures { λ r. ⌜ Ran (over s) (clearProgram s c second tag) (now (store .entry)) r (now (store .exit)) ⌝ }
-{
-    let d = clear_tag(store, s, c, second, tag);
-    finish(store, s, d, second)
-}
-
-// A tag gets a new reading: a clear and a set at the same second.
-pub fn update_program(
+// A tag is cleared (more = 0), or gets a new reading (more = 1): a clear and a set at the same second.
+pub fn clearing_program(
     store: &mut [u32],
     s: Settings,
     c: Cursor,
     second: u32,
     tag: u32,
+    more: u32,
     reading: u32,
 ) -> Cursor
-    requires { ⌜ Able s (updateProgram s c second tag reading) (now store) ⌝ }
-    ensures { λ r. ⌜ Ran (over s) (updateProgram s c second tag reading) (now (store .entry)) r (now (store .exit)) ⌝ }
+    requires { ⌜ Able s (clearingProgram more s c second tag reading) (now store) ⌝ }
+    requires { ⌜ Listed s (now store) tag ⌝ }
+    ensures { λ r. ⌜ Ran (over s) (clearingProgram more s c second tag reading) (now (store .entry)) r (now (store .exit)) ⌝ }
 {
     let d = clear_tag(store, s, c, second, tag);
+    if more == 0 {
+        return finish(store, s, d, second);
+    }
     let e = moves::place(store, s, d, second, tag, reading);
     finish(store, s, e, second)
 }

@@ -1,8 +1,9 @@
--- `own::set_refusal` meets its contract: refusals 8, 9, 12 and 13 in order.
+-- `own::set_refusal` meets its contract: refusals 8 and 9, then 12 and 13 if a block opens.
 use mathlib.Core.Path.{sym, ap, _∙_}
 use mathlib.Core.Bool.{not}
-use borrow.Author.Tests.{leb-false}
+use borrow.Author.Tests.{leb-false, not-true, not-false}
 use borrow.Author.Needs.{needs}
+use Rattle.decisions.specs.SoundLaws.{set-opens, set-rests, out-opens, out-rests}
 use Rattle.decisions.specs.TestLaws.{hit, miss, none, zero-is, zero-not}
 use Rattle.decisions.proofs.own.set_refusal.Statement.{statement}
 use Rattle.decisions.proofs.own.set_refusal.Tie as tie
@@ -21,34 +22,47 @@ returns-2 c =
     miss (sym (c .before .before .before .beyond-tags .ensures) ∙ c .before .before .if1 .left)
     (hit (ap not (zero-not (c .before .read .ensures .value) (c .if2 .taken))))
 
-unsound-set-requires : tie.Need-unsound-set-requires
-unsound-set-requires c κs = search needs
+opens-requires : tie.Need-opens-requires
+opens-requires c κs = search needs
 
 returns-3 : tie.Need-returns-3
 returns-3 c =
-    miss (sym (c .before .before .before .before .before .beyond-tags .ensures) ∙ c .before .before .before .before .if1 .left)
-    (miss (ap not (zero-is (c .before .before .before .read .ensures .value) (c .before .before .if2 .left)))
-    (hit (sym (c .before .unsound-set .ensures) ∙ c .if3 .taken)))
+    let opened = c .before in
+    let read = opened .before .before in
+    let begun = read .before .before in
+    let rests = sym (opened .opens .ensures) ∙ not-true _ (c .if3 .taken) in
+    miss (sym (begun .beyond-tags .ensures) ∙ read .before .if1 .left)
+    (miss (ap not (zero-is (read .read .ensures .value) (opened .before .if2 .left)))
+    (miss (set-rests _ _ rests) (miss (out-rests _ 1 rests) none)))
 
-blocks-out-requires : tie.Need-blocks-out-requires
-blocks-out-requires c κs = search needs
+unsound-for-set-requires : tie.Need-unsound-for-set-requires
+unsound-for-set-requires c κs = search needs
 
 returns-4 : tie.Need-returns-4
 returns-4 c =
-    miss (sym (c .before .before .before .before .before .before .before .beyond-tags .ensures)
-    ∙ c .before .before .before .before .before .before .if1 .left)
-    (miss (ap not (zero-is (c .before .before .before .before .before .read .ensures .value) (c .before .before .before .before .if2 .left)))
-    (miss (sym (c .before .before .before .unsound-set .ensures) ∙ c .before .before .if3 .left)
-    (hit (sym (c .before .blocks-out .ensures) ∙ c .if4 .taken))))
+    let opened = c .before .before .before in
+    let read = opened .before .before in
+    let begun = read .before .before in
+    miss (sym (begun .beyond-tags .ensures) ∙ read .before .if1 .left)
+    (miss (ap not (zero-is (read .read .ensures .value) (opened .before .if2 .left)))
+    (hit (set-opens _ _ (sym (opened .opens .ensures) ∙ not-false _ (c .before .before .if3 .left))
+    (sym (c .before .unsound-for-set .ensures) ∙ c .if4 .taken))))
+
+opening-refusal-requires : tie.Need-opening-refusal-requires
+opening-refusal-requires c κs = search needs
 
 returns-5 : tie.Need-returns-5
 returns-5 c =
-    miss (sym (c .before .before .before .before .before .before .before .beyond-tags .ensures)
-    ∙ c .before .before .before .before .before .before .if1 .left)
-    (miss (ap not (zero-is (c .before .before .before .before .before .read .ensures .value) (c .before .before .before .before .if2 .left)))
-    (miss (sym (c .before .before .before .unsound-set .ensures) ∙ c .before .before .if3 .left)
-    (miss (sym (c .before .blocks-out .ensures) ∙ c .if4 .left) none)))
+    let opened = c .before .before .before .before in
+    let read = opened .before .before in
+    let begun = read .before .before in
+    let opening = sym (opened .opens .ensures) ∙ not-false _ (c .before .before .before .if3 .left) in
+    miss (sym (begun .beyond-tags .ensures) ∙ read .before .if1 .left)
+    (miss (ap not (zero-is (read .read .ensures .value) (opened .before .if2 .left)))
+    (miss (set-opens _ _ opening (sym (c .before .before .unsound-for-set .ensures) ∙ c .before .if4 .left))
+    (out-opens _ 1 opening (c .opening-refusal .ensures))))
 
 pub set-refusal-spec : {M : Type 1} → statement M
 set-refusal-spec =
-    tie.close (tie.spec beyond-tags-requires returns read-requires returns-2 unsound-set-requires returns-3 blocks-out-requires returns-4 returns-5)
+    tie.close (tie.spec beyond-tags-requires returns read-requires returns-2 opens-requires returns-3 unsound-for-set-requires returns-4
+    opening-refusal-requires returns-5)

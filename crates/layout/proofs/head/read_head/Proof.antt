@@ -1,29 +1,22 @@
--- `head::read_head` meets its contract: too short, bad, or the head.
-use mathlib.Core.Path.{sym, _∙_}
-use borrow.Author.Tests.{lt-ltb, le-ltb}
+-- `head::read_head` meets its contract: the refusal, or the head.
+use mathlib.Core.Path.{ap, _∙_}
 use borrow.Author.Needs.{needs}
-use Rattle.layout.specs.Head.{headAnswer}
+use Rattle.layout.specs.declared.head.HeadAnswer.the-variants.{Read}
+use Rattle.layout.specs.HeadLaws.{answer-refused, answer-read}
 use Rattle.layout.proofs.head.read_head.Statement.{statement}
 use Rattle.layout.proofs.head.read_head.Tie as tie
 
+head-refusal-requires : tie.Need-head-refusal-requires
+head-refusal-requires c κs = search needs
+
 returns : tie.Need-returns
-unfolding headAnswer
-returns c = simp (lt-ltb _ _ (c .if1 .taken))
-
-bad-head-requires : tie.Need-bad-head-requires
-bad-head-requires c κs = search needs
-
-returns-2 : tie.Need-returns-2
-unfolding headAnswer
-returns-2 c = simp (le-ltb _ _ (c .before .before .if1 .left), sym (c .before .bad-head .ensures) ∙ c .if2 .taken)
+returns c = answer-refused _ (c .before .head-refusal .ensures) (c .if1 .taken)
 
 head-of-requires : tie.Need-head-of-requires
-head-of-requires c κs = search needs
+head-of-requires c κs = answer-read (c .before .before .before .args .store .now) (c .before .head-refusal .ensures) (c .if1 .left) .0
 
-returns-3 : tie.Need-returns-3
-unfolding headAnswer
-returns-3 c = simp (le-ltb _ _ (c .before .before .before .if1 .left), sym (c .before .before .bad-head .ensures) ∙ c .before .if2 .left, c .head-of .ensures)
+returns-2 : tie.Need-returns-2
+returns-2 c = ap Read (c .head-of .ensures) ∙ answer-read _ (c .before .before .head-refusal .ensures) (c .before .if1 .left) .1
 
 pub read-head-spec : {M : Type 1} → statement M
-read-head-spec =
-    tie.close (tie.spec returns bad-head-requires returns-2 head-of-requires returns-3)
+read-head-spec = tie.close (tie.spec head-refusal-requires returns head-of-requires returns-2)

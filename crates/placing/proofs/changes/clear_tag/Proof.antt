@@ -5,23 +5,27 @@ use borrow.Author.Tests.{eq-eqb, ne-eqb}
 use Rattle.layout.specs.Able.{able-first, able-next, able-passed}
 use Rattle.layout.specs.Ran.{then, done, taken, passed}
 use Rattle.calls.specs.Placing.{clearTag}
-use Rattle.placing.proofs.AbleLaws.{reads, writes}
+use Rattle.placing.proofs.AbleLaws.{reads, writes, listed-place}
 use Rattle.placing.proofs.changes.clear_tag.Statement.{statement}
 use Rattle.placing.proofs.changes.clear_tag.Tie as tie
 
 read-requires : tie.Need-read-requires
 unfolding clearTag
-read-requires c κs = reads _ (c .before .before .pre)
+read-requires c κs = reads _ (c .before .before .pre .0)
 
 block-of-requires : tie.Need-block-of-requires
-block-of-requires c κs = c .before .before .before .pre .within
+block-of-requires c κs =
+    let entry = c .before .before .before in
+    (entry .pre .0 .within, listed-place (entry .pre .1) (c .read .ensures))
 
 slot-of-requires : tie.Need-slot-of-requires
-slot-of-requires c κs = c .before .before .before .before .pre .within
+slot-of-requires c κs =
+    let entry = c .before .before .before .before in
+    (entry .pre .0 .within, listed-place (entry .pre .1) (c .before .read .ensures))
 
 end-record-requires : tie.Need-end-record-requires
 unfolding clearTag
-end-record-requires c κs = rw (c .before .before .block-of .ensures, c .before .slot-of .ensures) (able-first (able-next (c .before .before .before .before .before .before .pre) (c .before .before .before .read .ensures)))
+end-record-requires c κs = rw (c .before .before .block-of .ensures, c .before .slot-of .ensures) (able-first (able-next (c .before .before .before .before .before .before .pre .0) (c .before .before .before .read .ensures)))
 
 write-requires : tie.Need-write-requires
 unfolding clearTag
@@ -31,7 +35,7 @@ write-requires c κs =
     let d = f .before in
     let b = d .before in
     let a = b .before .before .before in
-    writes _ (able-next (able-next (a .pre) (b .read .ensures)) (rw (d .block-of .ensures, f .slot-of .ensures) at (g .end-record .ensures)))
+    writes _ (able-next (able-next (a .pre .0) (b .read .ensures)) (rw (d .block-of .ensures, f .slot-of .ensures) at (g .end-record .ensures)))
 
 same-length : tie.Need-same-length
 same-length c = search needs
@@ -56,7 +60,7 @@ judge-requires c κs =
     let d = f .before in
     let b = d .before in
     let a = b .before .before .before in
-    rw (d .block-of .ensures) (able-passed (ne-eqb _ _ (λ e. i .if1 .left (d .block-of .ensures ∙ e))) (able-next (able-next (able-next (a .pre) (b .read .ensures)) (rw (d .block-of .ensures, f .slot-of .ensures) at (g .end-record .ensures))) (h .write .ensures)))
+    rw (d .block-of .ensures) (able-passed (ne-eqb _ _ (λ e. i .if1 .left (d .block-of .ensures ∙ e))) (able-next (able-next (able-next (a .pre .0) (b .read .ensures)) (rw (d .block-of .ensures, f .slot-of .ensures) at (g .end-record .ensures))) (h .write .ensures)))
 
 same-length-2 : tie.Need-same-length-2
 same-length-2 c = search needs

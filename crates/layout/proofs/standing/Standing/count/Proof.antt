@@ -1,16 +1,29 @@
--- `Standing::count` meets its contract: as many slots as ones.
-use mathlib.Core.Path.{sym}
+-- `Standing::count` meets its contract: as many slots as ones, and those of two words side by side are counted apart.
+use mathlib.Core.Path.{sym, _∙_}
 use native.Mathlib.Omega.{arith}
-use lib.Count.{ones-le}
+use native.Mathlib.Nat.{add-comm}
+use lib.Count.{ones-cat}
+use borrow.Author.Needs.{needs}
 use Rattle.base.specs.Slots.{slots-count}
 use Rattle.layout.proofs.standing.Standing.count.Statement.{statement}
 use Rattle.layout.proofs.standing.Standing.count.Tie as tie
 
+cast-result : tie.Need-cast-result
+cast-result c = search needs
+
+mul-result : tie.Need-mul-result
+mul-result c = search needs
+
+cast-result-2 : tie.Need-cast-result-2
+cast-result-2 c = search needs
+
 add-result : tie.Need-add-result
-add-result c = let b = c .before .before .args .self in omega (arith, ones-le 32 (b .low) (omega arith), ones-le 32 (b .high) (omega arith))
+add-result c = search needs
 
 returns : tie.Need-returns
-returns c = let b = c .before .before .args .self in sym (slots-count (b .low) (b .high) (omega arith) (omega arith))
+returns c =
+    let b = c .before .before .args .self in
+    ones-cat 32 (b .high) (b .low) (omega arith) ∙ add-comm _ _ ∙ sym (slots-count (b .low) (b .high) (omega arith) (omega arith))
 
 pub count-spec : {M : Type 1} → statement M
-count-spec = tie.close (tie.spec add-result returns)
+count-spec = tie.close (tie.spec cast-result mul-result cast-result-2 add-result returns)

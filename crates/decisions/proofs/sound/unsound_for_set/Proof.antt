@@ -1,12 +1,12 @@
--- `sound::unsound_set` meets its contract.
+-- `sound::unsound_for_set` meets its contract.
 use borrow.Author.Tests.{eq-eqb}
 use borrow.Author.Needs.{needs}
-use Rattle.calls.specs.Refusals.{unsoundSet}
-use Rattle.decisions.proofs.sound.unsound_set.Statement.{statement}
-use Rattle.decisions.proofs.sound.unsound_set.Tie as tie
+use Rattle.decisions.specs.SoundLaws.{badAcceptor}
+use Rattle.decisions.proofs.sound.unsound_for_set.Statement.{statement}
+use Rattle.decisions.proofs.sound.unsound_for_set.Tie as tie
 
 returns : tie.Need-returns
-unfolding unsoundSet
+unfolding badAcceptor
 returns c = simp (eq-eqb _ _ (c .if1 .taken))
 
 bits-of-requires : tie.Need-bits-of-requires
@@ -16,8 +16,7 @@ acceptor-is-bad-requires : tie.Need-acceptor-is-bad-requires
 acceptor-is-bad-requires c κs = search needs
 
 returns-2 : tie.Need-returns-2
-unfolding unsoundSet
 returns-2 c = simp (c .acceptor-is-bad .ensures, c .before .bits-of .ensures)
 
-pub unsound-set-spec : {M : Type 1} → statement M
-unsound-set-spec = tie.close (tie.spec returns bits-of-requires acceptor-is-bad-requires returns-2)
+pub unsound-for-set-spec : {M : Type 1} → statement M
+unsound-for-set-spec = tie.close (tie.spec returns bits-of-requires acceptor-is-bad-requires returns-2)

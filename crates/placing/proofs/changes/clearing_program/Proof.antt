@@ -1,0 +1,57 @@
+-- `changes::clearing_program` meets its contract: the clear first, then as a clear or as a new reading.
+use borrow.Author.Needs.{needs}
+use borrow.Author.Tests.{eq-eqb, ne-eqb}
+use Rattle.base.specs.Branch.{is?}
+use Rattle.layout.specs.Able.{able-first, able-next, able-taken, able-passed}
+use Rattle.layout.specs.Ran.{then, taken, passed}
+use Rattle.calls.specs.Placing.{clearProgram, updateProgram}
+use Rattle.placing.proofs.changes.clearing_program.Statement.{statement}
+use Rattle.placing.proofs.changes.clearing_program.Tie as tie
+
+clear-tag-requires : tie.Need-clear-tag-requires
+unfolding clearProgram updateProgram
+clear-tag-requires c κs =
+    let entry = c .before .before in (
+      is? (entry .args .more) 0
+          (λ e. able-first (able-taken (eq-eqb _ _ e) (entry .pre .0)))
+          (λ d. able-first (able-passed (ne-eqb _ _ d) (entry .pre .0))),
+      entry .pre .1,
+    )
+
+finish-requires : tie.Need-finish-requires
+unfolding clearProgram
+finish-requires c κs =
+    able-next (able-taken (eq-eqb _ _ (c .before .if1 .taken)) (c .before .before .before .before .before .before .before .pre .0)) (c .before .before .before .before .clear-tag .ensures)
+
+same-length : tie.Need-same-length
+same-length c = search needs
+
+returns : tie.Need-returns
+unfolding clearProgram
+returns c = taken (eq-eqb _ _ (c .before .before .before .before .if1 .taken)) (then (c .before .before .before .before .before .before .before .clear-tag .ensures) (c .before .before .finish .ensures))
+
+place-requires : tie.Need-place-requires
+unfolding updateProgram
+place-requires c κs =
+    able-first (able-next (able-passed (ne-eqb _ _ (c .before .if1 .left)) (c .before .before .before .before .before .before .before .pre .0)) (c .before .before .before .before .clear-tag .ensures))
+
+finish-requires-2 : tie.Need-finish-requires-2
+unfolding updateProgram
+finish-requires-2 c κs =
+    let cleared = c .before .before .before .before .before .before .before .before in
+    able-next (able-next (able-passed (ne-eqb _ _ (c .before .before .before .before .before .if1 .left)) (cleared .before .before .before .pre .0)) (cleared .clear-tag .ensures))
+    (c .before .before .before .place .ensures)
+
+same-length-2 : tie.Need-same-length-2
+same-length-2 c = search needs
+
+returns-2 : tie.Need-returns-2
+unfolding updateProgram
+returns-2 c =
+    let cleared = c .before .before .before .before .before .before .before .before .before .before .before in
+    passed (ne-eqb _ _ (c .before .before .before .before .before .before .before .before .if1 .left))
+    (then (cleared .clear-tag .ensures) (then (c .before .before .before .before .before .before .place .ensures) (c .before .before .finish2 .ensures)))
+
+pub clearing-program-spec : {M : Type 1} → statement M
+clearing-program-spec =
+    tie.close (tie.spec clear-tag-requires finish-requires same-length returns place-requires finish-requires-2 same-length-2 returns-2)
