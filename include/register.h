@@ -7,7 +7,7 @@
  *  - each pointer is aligned and not null, also where its number of words is 0, and has that many words behind it;
  *  - store, rows, list and answer do not overlap;
  *  - nothing else writes the lent words, or reads those that the call writes, until it returns;
- *  - there is stack: a look-back's visits nest up to B - 1 deep, some 350 bytes each on x86-64 (1.5 MB for B = 4096);
+ *  - there is stack: a look-back's visits nest up to B - 1 deep, some 190 bytes each on x86-64 (0.8 MB for B = 4096);
  *    the other calls take less than 1 KB.
  *
  * Results: 0 if the call was accepted, else the number of the first refusal that applies. A refused call leaves all

@@ -2,7 +2,7 @@
 //!
 //! A slice is passed as its pointer and its number of words (include/register.h). The proofs assume what Rust's
 //! borrows give: the words are there, aligned, and no two lent parts overlap while one of them is written. A look-back
-//! may take 350 bytes of stack for each of B blocks, which a thread's usual 2 MB holds.
+//! may take 190 bytes of stack for each of B blocks, which a thread's usual 2 MB holds.
 use crate::{Answer, Refusal, Register, Settings};
 
 extern "C" {
