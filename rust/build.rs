@@ -1,8 +1,13 @@
-//! Proves the Rattle crates (as far as they are not proved already) and links the static library that `rt` makes of them.
+//! Proves the Rattle crates (as far as they are not proved already) and links the static library that `rt` makes of them;
+//! without the feature `proved`, nothing.
 use std::path::Path;
 use std::process::Command;
 
 fn main() {
+    if std::env::var_os("CARGO_FEATURE_PROVED").is_none() {
+        println!("cargo:rerun-if-changed=build.rs");
+        return;
+    }
     let repository = Path::new(env!("CARGO_MANIFEST_DIR")).parent().expect("rust/ lies in the repository");
     for path in ["crates", "crates.txt"] {
         println!("cargo:rerun-if-changed={}", repository.join(path).display());

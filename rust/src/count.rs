@@ -1,61 +1,83 @@
-//! One kind of work by one register, so that callgrind can count its instructions: only what runs inside
-//! `counted_work` is counted (count.sh), inputs and start are made outside.
-use crate::input::{self, Change};
+//! One kind of call by one register, so that callgrind can count its instructions: only what runs inside `counted_change`
+//! or `counted_look_back` is counted (count.sh). Inputs, start and the calls of other kinds run outside.
+use crate::input::{self, Change, Kind};
 use register::{Answer, Independent, Proved, Refusal, Register, Settings};
 use std::hint::black_box;
-
-type Work = fn(&mut [u32], &[Change], &[u32], &mut [u32], &mut [u32]) -> u64;
 
 pub fn run(who: &str, what: &str, work: &str, block: &str) {
     let settings = input::settings(block.parse().expect("b is a number"));
     let all = input::named(work);
     let changes = input::cut(&all, settings);
-    let mut seconds = Vec::new();
-    for from in [5, 50, 99] {
-        seconds.extend(input::seconds(changes, from, 100));
-    }
-    let mut store = vec![0; settings.words()];
-    let (mut rows, mut list) = (vec![0; 2 * settings.tags as usize], vec![0; settings.blocks as usize]);
-    Independent::start(&mut store, settings).expect("sound settings");
-    let work: Work = match (who, what) {
-        ("proved", "changes") => change_all::<Proved>,
-        ("independent", "changes") => change_all::<Independent>,
-        ("nothing", "changes") => change_all::<Nothing>,
-        ("proved", "lookbacks") => look_all::<Proved>,
-        ("independent", "lookbacks") => look_all::<Independent>,
-        ("nothing", "lookbacks") => look_all::<Nothing>,
-        _ => panic!("no such work: {who} {what}"),
+    let count = match who {
+        "proved" => count::<Proved>,
+        "independent" => count::<Independent>,
+        "nothing" => count::<Nothing>,
+        _ => panic!("no such register: {who}"),
     };
-    if what == "lookbacks" {
-        change_all::<Independent>(&mut store, changes, &[], &mut [], &mut []);
-    }
-    let accepted = counted_work(work, &mut store, changes, &seconds, &mut rows, &mut list);
-    println!("{who} {what}: {accepted} of {} changes, {} look-backs", changes.len(), seconds.len());
+    println!("{}", count(Kind::named(what), settings, changes));
 }
 
-/// What callgrind counts.
+/// Makes the calls and gives how many were counted.
+fn count<R: Register>(kind: Option<Kind>, settings: Settings, changes: &[Change]) -> usize {
+    let mut store = vec![0; settings.words()];
+    Independent::start(&mut store, settings).expect("sound settings");
+    match kind {
+        Some(kind) => count_changes::<R>(&mut store, kind, changes),
+        None => count_look_backs::<R>(&mut store, settings, changes),
+    }
+}
+
+/// All changes by one register; those of one kind are counted.
+fn count_changes<R: Register>(store: &mut [u32], kind: Kind, changes: &[Change]) -> usize {
+    let call: ChangeCall = match kind {
+        Kind::Set => |store, c| R::set(store, c.second, c.tag, c.reading).is_ok(),
+        Kind::Clear => |store, c| R::clear(store, c.second, c.tag).is_ok(),
+        Kind::Update => |store, c| R::update(store, c.second, c.tag, c.reading).is_ok(),
+    };
+    let mut counted = 0;
+    for change in changes {
+        if change.kind == kind {
+            assert!(counted_change(call, store, change), "the changes are cut at the first refusal");
+            counted += 1;
+        } else {
+            input::apply::<R>(store, change).expect("the changes are cut at the first refusal");
+        }
+    }
+    counted
+}
+
+/// Look-backs, at 100 seconds each of old, middle and recent, on the store after all changes.
+fn count_look_backs<R: Register>(store: &mut [u32], settings: Settings, changes: &[Change]) -> usize {
+    for change in changes {
+        input::apply::<Independent>(store, change).expect("the changes are cut at the first refusal");
+    }
+    let (mut rows, mut list) = (vec![0; 2 * settings.tags as usize], vec![0; settings.blocks as usize]);
+    let call: LookBackCall = |store, t, rows, list| R::look_back(store, t, rows, list).is_ok();
+    let seconds: Vec<u32> = [5, 50, 99].into_iter().flat_map(|from| input::seconds(changes, from, 100)).collect();
+    for &t in &seconds {
+        assert!(counted_look_back(call, store, t, &mut rows, &mut list), "the seconds are not after the clock");
+    }
+    seconds.len()
+}
+
+type ChangeCall = fn(&mut [u32], &Change) -> bool;
+type LookBackCall = fn(&[u32], u32, &mut [u32], &mut [u32]) -> bool;
+
+/// What callgrind counts of a change.
 #[inline(never)]
 #[no_mangle]
-fn counted_work(
-    work: Work,
-    store: &mut [u32],
-    changes: &[Change],
-    seconds: &[u32],
-    rows: &mut [u32],
-    list: &mut [u32],
-) -> u64 {
-    black_box(work)(store, changes, seconds, rows, list)
+fn counted_change(call: ChangeCall, store: &mut [u32], change: &Change) -> bool {
+    black_box(call)(store, change)
 }
 
-fn change_all<R: Register>(store: &mut [u32], changes: &[Change], _: &[u32], _: &mut [u32], _: &mut [u32]) -> u64 {
-    changes.iter().map(|change| u64::from(input::apply::<R>(store, change).is_ok())).sum()
+/// What callgrind counts of a look-back.
+#[inline(never)]
+#[no_mangle]
+fn counted_look_back(call: LookBackCall, store: &[u32], t: u32, rows: &mut [u32], list: &mut [u32]) -> bool {
+    black_box(call)(store, t, rows, list)
 }
 
-fn look_all<R: Register>(store: &mut [u32], _: &[Change], seconds: &[u32], rows: &mut [u32], list: &mut [u32]) -> u64 {
-    seconds.iter().map(|&t| u64::from(R::look_back(store, t, rows, list).is_ok())).sum()
-}
-
-/// A register that does nothing: what the loop around the calls costs.
+/// A register that does nothing: what the functions around a call cost.
 struct Nothing;
 
 impl Register for Nothing {

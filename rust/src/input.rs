@@ -15,6 +15,19 @@ pub enum Kind {
     Update,
 }
 
+impl Kind {
+    /// The kind of change that a word of the command line asks for; none for look-backs.
+    pub fn named(what: &str) -> Option<Kind> {
+        match what {
+            "sets" => Some(Kind::Set),
+            "clears" => Some(Kind::Clear),
+            "readings" => Some(Kind::Update),
+            "lookbacks" => None,
+            _ => panic!("no such calls: {what}"),
+        }
+    }
+}
+
 #[derive(Clone, Copy, Debug)]
 pub struct Change {
     pub second: u32,

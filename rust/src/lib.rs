@@ -23,12 +23,14 @@
 #![deny(unsafe_op_in_unsafe_fn)]
 
 mod answer;
+#[cfg(feature = "proved")]
 mod ffi;
 mod independent;
 mod refusal;
 mod settings;
 
 pub use answer::{Answer, NONE};
+#[cfg(feature = "proved")]
 pub use ffi::Proved;
 pub use independent::Independent;
 pub use refusal::Refusal;

@@ -1,7 +1,7 @@
 //! Measures the proved register beside its rivals, and writes the tables and the plot of docs/BENCHMARKS.md.
 //!
-//! `cargo run --release` measures everything. `cargo run --release -- count proved changes year 16` does one kind of work
-//! for callgrind, and `-- put counted` puts what it reads from standard input into the page; count.sh uses these two.
+//! `cargo run --release` measures everything. `cargo run --release -- count proved sets year 16` makes one kind of
+//! call for callgrind, and `-- put counted` puts what it reads from standard input into the page; count.sh uses these two.
 mod count;
 mod draw;
 mod input;
@@ -18,7 +18,8 @@ fn main() {
         ["count", who, what, work, block] => count::run(who, what, work, block),
         ["put", name] => report::put(name, &std::io::read_to_string(std::io::stdin()).expect("standard input is text")),
         _ => {
-            eprintln!("usage: register [count proved|independent|nothing changes|lookbacks year|stress B | put NAME]");
+            eprintln!("usage: register [count WHO WHAT year|stress B | put NAME]");
+            eprintln!("WHO: proved, independent or nothing; WHAT: sets, clears, readings or lookbacks");
             std::process::exit(2);
         }
     }

@@ -48,6 +48,7 @@ impl Refusal {
     }
 
     /// An exported call's result: 0 is accepted.
+    #[cfg(feature = "proved")]
     pub(crate) fn told(number: u32) -> Result<(), Refusal> {
         match NonZeroU32::new(number) {
             None => Ok(()),

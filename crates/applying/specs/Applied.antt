@@ -2,6 +2,7 @@
 use mathlib.Core.Path.{_≡_}
 use mathlib.Core.List.{List}
 use Prim.Native.Nat.{ℕ}
+use Rattle.layout.specs.Settings.{settingsOf}
 use Rattle.calls.specs.Calls as calls
 use Rattle.calls.specs.Step.{step}
 use Rattle.changes.specs.declared.Change.{Change}
@@ -16,7 +17,7 @@ use Rattle.applying.specs.declared.call.Answer.the-variants.{Done, Shown
 
 -- the call of the definitions, a look-back with the buffers that it is lent
 abbrev pub callOf : Call → List ℕ → List ℕ → calls.Call
-callOf (Start b q blocks tags) rows list = calls.Start b q blocks tags
+callOf (Start b q blocks tags) rows list = calls.Start (settingsOf b q blocks tags)
 callOf (Set s tag reading) rows list = calls.Set s tag reading
 callOf (Clear s tag) rows list = calls.Clear s tag
 callOf (Update s tag reading) rows list = calls.Update s tag reading

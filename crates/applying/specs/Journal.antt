@@ -7,6 +7,7 @@ use Prim.Native.Nat.{ℕ, _+_}
 use lib.Dec.{eqb}
 use lib.ListN.{length, getD}
 use Rattle.base.specs.Sums.{is}
+use Rattle.layout.specs.Settings.{settingsOf}
 use Rattle.calls.specs.Calls.{Call, Start, Set, Clear, Update, Advance, accepted}
 use Rattle.calls.specs.Step.{step}
 use Rattle.calls.specs.History.{Heard, wordsAfter, trace}
@@ -23,7 +24,7 @@ pub data Entry : Type 0 where
 
 abbrev pub entryOf : ℕ → ℕ → ℕ → ℕ → ℕ → Entry
 entryOf kind a b c d =
-    cond (eqb kind 0) (says (Start a b c d))
+    cond (eqb kind 0) (says (Start (settingsOf a b c d)))
     (cond (eqb kind 1) (says (Set a b c))
     (cond (eqb kind 2) (says (Clear a b))
     (cond (eqb kind 3) (says (Update a b c))

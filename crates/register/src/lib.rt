@@ -10,6 +10,7 @@ use timeslice::Looked;
 use timeslice::Slice;
 ghost use mathlib.Core.Path.{_≡_};
 ghost use lib.Seq.{sets};
+ghost use Rattle.layout.specs.Settings.{settingsOf};
 ghost use Rattle.calls.specs.Calls.{Start, Set, Clear, Update, Advance, LookBack};
 ghost use Rattle.calls.specs.Step.{step};
 ghost use Rattle.changes.specs.Replied.{answerOf};
@@ -33,7 +34,7 @@ pub extern "C" fn register_start(
     blocks: u32,
     tags: u32,
 ) -> u32
-    ensures { λ r. ⌜ Told (step (now (store .entry)) (Start block useful blocks tags)) r (now (store .exit)) ⌝ }
+    ensures { λ r. ⌜ Told (step (now (store .entry)) (Start (settingsOf block useful blocks tags))) r (now (store .exit)) ⌝ }
 {
     let change = changes::start(store, block, useful, blocks, tags);
     number(change)

@@ -1,6 +1,7 @@
 -- `enter` meets its contract: each kind by its own call.
 use borrow.Author.Needs.{needs}
 use mathlib.Core.Path.{refl}
+use Rattle.layout.specs.Settings.{settingsOf}
 use Rattle.calls.specs.Calls.{Start, Set, Clear, Update, Advance}
 use Rattle.applying.specs.JournalLaws.{entered, passed, of-kind, of-none}
 use Rattle.applying.proofs.journal.enter.Statement.{statement}
@@ -16,7 +17,7 @@ same-length : tie.Need-same-length
 same-length c = search needs
 
 returns : tie.Need-returns
-returns c = entered (Start _ _ _ _) (of-kind _ _ _ _ 0 (c .before .before .before .before .before .if1 .taken)) (c .before .before .before .start .ensures) (c .told .ensures)
+returns c = entered (Start (settingsOf _ _ _ _)) (of-kind _ _ _ _ 0 (c .before .before .before .before .before .if1 .taken)) (c .before .before .before .start .ensures) (c .told .ensures)
 
 set-requires : tie.Need-set-requires
 set-requires c κs = search needs
