@@ -1,8 +1,8 @@
 -- Every call on any words: accepted if and only if no listed refusal applies, refused by the first that does, and the lent words then as before.
 use mathlib.Core.Path.{_≡_, refl, sym, ap, _∙_}
 use mathlib.Core.Logic.{_↔_}
-use mathlib.Core.Bool.{true, false, cond}
-use mathlib.Core.List.{List, []}
+use mathlib.Core.Bool.{Bool, true, false, cond, true≢false}
+use mathlib.Core.List.{List, [], map}
 use Prim.Native.Nat.{ℕ, zero}
 use native.Mathlib.Omega.{arith}
 use lib.Dec.{eqb}
@@ -18,10 +18,10 @@ use Rattle.layout.specs.Head.{headOf, withHead, cleared}
 use Rattle.layout.specs.Program.{Prog}
 use Rattle.layout.specs.ProgramLaws.{run-length}
 use Rattle.layout.specs.OnWords.{over}
-use Rattle.calls.specs.Calls.{Call, Start, Set, Clear, Update, Advance, Answer, Done, Refused, accepted, Reply}
+use Rattle.calls.specs.Calls.{Query, Call, Start, Set, Clear, Update, Advance, Ask, Answer, Done, Refused, accepted, Reply}
 use Rattle.calls.specs.Placing.{setProgram, clearProgram, updateProgram, advanceProgram}
 use Rattle.calls.specs.Refusals.{Test, refusal}
-use Rattle.calls.specs.Claims.{First, EveryCall, lentRows, lentList}
+use Rattle.calls.specs.Claims.{First, EveryCall, lentBy, zeroed}
 use Rattle.calls.specs.Step.{step, testsOf, reply, change, set, clear, update, advance, start, freshHead}
 use Rattle.theory.specs.Started.{started, started-length}
 use Rattle.theory.specs.TestLaws.{numbered, Decided, free, turned, refused, clash}
@@ -60,12 +60,17 @@ reply-fair l ws h after k long = go (refusal l) (refused l k)
     })
 
 -- a call that is no query
-no-query : {A : Type 0} {c : Call} {q : Query} → Change′ c → c ≡ Ask q → A
-no-query = ?
+abbrev asks : Call → Bool
+asks (Start s) = false
+asks (Set s tag reading) = false
+asks (Clear s tag) = false
+asks (Update s tag reading) = false
+asks (Advance s) = false
+asks (Ask q) = true
 
 -- the claim, of a call that is lent no buffer
-fair-every : {ws : List ℕ} {c : Call} → lentBy c ≡ [] → ((q : Query) → c ≢ Ask q) → Fair (testsOf ws c) ws (step ws c) → DoneOn ws c → EveryCall ws c
-fair-every r k f d = record {
+fair-every : {ws : List ℕ} {c : Call} → asks c ≡ false → lentBy c ≡ [] → Fair (testsOf ws c) ws (step ws c) → DoneOn ws c → EveryCall ws c
+fair-every k r f d = record {
   accepted-iff = f .accepted-iff;
   refused-first = f .refused-first;
   store-kept = f .store-kept;
@@ -75,7 +80,7 @@ fair-every r k f d = record {
   foretold = d .foretold;
   small = d .small;
   same-lengths = (f .same-length, ap (λ (l : List (List ℕ)). map length l) (f .lent-none ∙ sym r));
-  query-reads = λ q e. absurd (k q e);
+  query-reads = λ q e. absurd (true≢false (sym (ap asks e) ∙ k));
 }
 
 -- ---- the changes and the clock move
@@ -84,26 +89,26 @@ change-fair l ws p n = reply-fair l ws _ _ n (λ a. run-length (over (headOf ws 
 
 pub every-set : (ws : List ℕ) (s tag reading : ℕ) → EveryCall ws (Set s tag reading)
 unfolding set
-every-set ws s tag reading = fair-every refl (λ q e. no-query e) (change-fair _ ws (setProgram (headOf ws .settings) (headOf ws .cursor) s tag reading) refl) (set-done ws s tag reading)
+every-set ws s tag reading = fair-every refl refl (change-fair _ ws (setProgram (headOf ws .settings) (headOf ws .cursor) s tag reading) refl) (set-done ws s tag reading)
 
 pub every-clear : (ws : List ℕ) (s tag : ℕ) → EveryCall ws (Clear s tag)
 unfolding clear
-every-clear ws s tag = fair-every refl (λ q e. no-query e) (change-fair _ ws (clearProgram (headOf ws .settings) (headOf ws .cursor) s tag) refl) (clear-done ws s tag)
+every-clear ws s tag = fair-every refl refl (change-fair _ ws (clearProgram (headOf ws .settings) (headOf ws .cursor) s tag) refl) (clear-done ws s tag)
 
 pub every-update : (ws : List ℕ) (s tag reading : ℕ) → EveryCall ws (Update s tag reading)
 unfolding update
-every-update ws s tag reading = fair-every refl (λ q e. no-query e) (change-fair _ ws (updateProgram (headOf ws .settings) (headOf ws .cursor) s tag reading) refl)
+every-update ws s tag reading = fair-every refl refl (change-fair _ ws (updateProgram (headOf ws .settings) (headOf ws .cursor) s tag reading) refl)
     (update-done ws s tag reading)
 
 pub every-advance : (ws : List ℕ) (s : ℕ) → EveryCall ws (Advance s)
 unfolding advance
-every-advance ws s = fair-every refl (λ q e. no-query e) (change-fair _ ws (advanceProgram (headOf ws .settings) (headOf ws .cursor) s) refl) (advance-done ws s)
+every-advance ws s = fair-every refl refl (change-fair _ ws (advanceProgram (headOf ws .settings) (headOf ws .cursor) s) refl) (advance-done ws s)
 
 -- ---- start
 pub every-start : (ws : List ℕ) (s : Settings) → EveryCall ws (Start s)
 unfolding start
 every-start ws s =
-    fair-every refl (λ q e. no-query e) (reply-fair _ ws _ _ refl long) (record { head-stored = stored; foretold = λ a. tt; small = λ k. absurd k })
+    fair-every refl refl (reply-fair _ ws _ _ refl long) (record { head-stored = stored; foretold = λ a. tt; small = λ k. absurd k })
   where
     long : All (λ x. x .applies ≡ false) (testsOf ws (Start s)) → length (withHead (freshHead s) (cleared s ws)) ≡ length ws
     long (cons x (cons y (cons z nil))) = started-length s ws (ltb-false (length ws) (layoutLen s) z) (ltb-false (length ws) headLen y)
