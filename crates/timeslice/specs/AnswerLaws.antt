@@ -19,7 +19,7 @@ use Rattle.layout.specs.OnWords.{fits-held}
 use Rattle.calls.specs.Calls.{Row, Refused as RefusedBy}
 use Rattle.calls.specs.Walk.{Reader, Finding, found, Pass, Walk, unsound, path, search, Looked as Walked, unsoundly, looked, within, look}
 use Rattle.calls.specs.Refusals.{refusal, lookBackTests, isOpen}
-use Rattle.calls.specs.Step.{lookBack, lookAt, seen, viewOf, rowWords, written, zeros, isUnsound, reader, passedOn}
+use Rattle.calls.specs.LookBack.{lookBack, lookAt, seen, viewOf, rowWords, written, zeros, isUnsound, reader, passedOn}
 use Rattle.timeslice.specs.declared.Counts.{Counts}
 use Rattle.timeslice.specs.declared.Slice.{Slice}
 use Rattle.timeslice.specs.declared.Looked.{Looked}
@@ -38,7 +38,7 @@ use Rattle.timeslice.specs.PathLaws.{path-short}
 use Rattle.timeslice.specs.VisitLaws.{short-found}
 use Rattle.timeslice.specs.Searching.{startOf, searchedOf}
 use Rattle.timeslice.specs.SearchLaws.{search-few}
-use Rattle.timeslice.specs.Answer.{sliceOf, LookedBack, Sees, whole, broken, Answers, ownTests}
+use Rattle.timeslice.specs.Answer.{sliceOf, view, number, LookedBack, Sees, whole, broken, Answers, ownTests}
 
 -- ---- the first of four tests, and of five
 abbrev first : Bool → Bool → Bool → Bool → ℕ
@@ -81,25 +81,16 @@ module _ (ws : List ℕ) (t : ℕ) (rows list : List ℕ) where
       → LookedBack ws t rows list (Refused n) rows list
   unfolding lookBack
   refused-is n q f =
-      let e : lookBack ws t rows list ≡ record { answer = RefusedBy n; store = ws; rows = rows; list = list } = rw (q, f) in
-      record { answer = rw e; row-words = rw e; list-words = rw e; store-words = rw e }
-
-  seen-store : (w : Walked) → ws ≡ seen ws rows list w .store
-  seen-store unsoundly = refl
-  seen-store (looked r l ps) = refl
+      let e : lookBack ws t rows list ≡ record { answer = RefusedBy n; rows = rows; list = list } = rw (q, f) in
+      record { answer = rw e number; row-words = rw e; list-words = rw e }
 
   seen-is : (eqb (refusal (lookBackTests ws t (length rows) (length list) unsoundHere)) 0
       || eqb (refusal (lookBackTests ws t (length rows) (length list) unsoundHere)) 12) ≡ true
       → {r : Looked} {rows′ list′ : List ℕ} → Answers ws t rows list r rows′ list′ → LookedBack ws t rows list r rows′ list′
   unfolding lookBack
   seen-is q a =
-      let e : lookBack ws t rows list ≡ seen ws rows list (lookAt ws t) = rw q in
-      record {
-        answer = a .answer ∙ rw e;
-        row-words = a .row-words ∙ rw e;
-        list-words = a .list-words ∙ rw e;
-        store-words = seen-store (lookAt ws t) ∙ rw e;
-      }
+      let e : lookBack ws t rows list ≡ seen rows list (lookAt ws t) = rw q in
+      record { answer = rw e (a .answer); row-words = a .row-words ∙ rw e; list-words = a .list-words ∙ rw e }
 
   -- The head is refused.
   pub head-refused : {n : ℕ} → headAnswer ws ≡ HeadRefused n → LookedBack ws t rows list (Refused n) rows list
@@ -296,13 +287,13 @@ sees-as a e = rw (← e) a
 
 module _ {ws : List ℕ} {t : ℕ} {rows list : List ℕ} {x : Seen} {rows₁ list₁ : List ℕ} (seen-so : Sees (lookAt ws t) rows list x rows₁ list₁) where
   answers-whole : {s : Slice} → Sees (lookAt ws t) rows list (Whole s) rows₁ list₁ → Answers ws t rows list (Answered s) rows₁ list₁
-  answers-whole (whole w e p q) = record { answer = rw w (ap Answered e); row-words = rw w p; list-words = rw w q }
+  answers-whole (whole w e p q) = record { answer = rw w (view e); row-words = rw w p; list-words = rw w q }
 
   pub answer-whole : {s : Slice} → x ≡ Whole s → Answers ws t rows list (Answered s) rows₁ list₁
   answer-whole e = answers-whole (sees-as seen-so e)
 
   answers-broken : Sees (lookAt ws t) rows list Unsound rows₁ list₁ → Answers ws t rows list (Refused 12) (zeros rows) (zeros list)
-  answers-broken (broken w) = record { answer = rw w; row-words = rw w; list-words = rw w }
+  answers-broken (broken w) = record { answer = rw w number; row-words = rw w; list-words = rw w }
 
   -- both buffers are filled with zeros, as long as they were
   pub answer-broken : x ≡ Unsound → length rows₁ ≡ length rows → length list₁ ≡ length list → {rows₂ list₂ : List ℕ} → rows₂ ≡ zeros rows₁ → list₂ ≡ zeros list₁

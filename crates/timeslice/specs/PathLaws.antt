@@ -16,7 +16,7 @@ use Rattle.layout.specs.Fields.{closedWord, upWord, leftWord, childWord}
 use Rattle.layout.specs.Parts.{blockWord}
 use Rattle.calls.specs.Calls.{Row}
 use Rattle.calls.specs.Walk.{Reader, Walk, andThen, listed, rowsOf, neighbour, visit, path}
-use Rattle.calls.specs.Step.{reader}
+use Rattle.calls.specs.LookBack.{reader}
 use Rattle.timeslice.specs.declared.Counts.{Counts}
 use Rattle.timeslice.specs.declared.walk.Walked.{Walked}
 use Rattle.timeslice.specs.declared.walk.Walked.the-variants.{Done, Unsound}

@@ -16,7 +16,7 @@ use Rattle.layout.specs.SettingsLaws.{layout-least}
 use Rattle.layout.specs.OnWords.{held-fits}
 use Rattle.layout.specs.PartsLaws.{LevelPart, PagePart}
 use Rattle.calls.specs.Walk.{Reader, Finding, unsound, found, Pass, lastUpTo, entries, topLevel, passing, lookUp, descend, search}
-use Rattle.calls.specs.Step.{reader}
+use Rattle.calls.specs.LookBack.{reader}
 use Rattle.timeslice.specs.declared.index.Start.{Start}
 use Rattle.timeslice.specs.declared.index.Searched.{Searched}
 use Rattle.timeslice.specs.declared.index.Searched.the-variants.{At, Unsound}

@@ -6,7 +6,7 @@ use lib.Dec.{eqb}
 use lib.ListN.{length}
 use Rattle.layout.specs.Sizes.{pageLen, dirStart}
 use Rattle.calls.specs.Walk.{Finding, unsound, found, Pass, entries}
-use Rattle.calls.specs.Step.{passedOn}
+use Rattle.calls.specs.LookBack.{passedOn}
 use Rattle.timeslice.specs.declared.index.Start.{Start}
 use Rattle.timeslice.specs.declared.index.Searched.{Searched}
 use Rattle.timeslice.specs.declared.index.Searched.the-variants.{At, Unsound}

@@ -16,7 +16,7 @@ use Rattle.layout.specs.Parts.{blockWord}
 use Rattle.layout.specs.OnWords.{Held}
 use Rattle.calls.specs.Calls.{Row}
 use Rattle.calls.specs.Walk.{Reader, Walk, unsound, found, rowsOf, neighbour, visit, path}
-use Rattle.calls.specs.Step.{rowWords}
+use Rattle.calls.specs.LookBack.{rowWords}
 use Rattle.timeslice.specs.declared.Counts.{Counts}
 use Rattle.timeslice.specs.declared.walk.Walked.{Walked}
 use Rattle.timeslice.specs.declared.walk.Walked.the-variants.{Done, Unsound}

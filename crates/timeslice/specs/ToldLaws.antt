@@ -9,7 +9,7 @@ use Rattle.layout.specs.declared.head.Head.{Head}
 use Rattle.layout.specs.PartsLaws.{BlockPart}
 use Rattle.calls.specs.Calls.{Row}
 use Rattle.calls.specs.Walk.{Walk, unsound, found, andThen}
-use Rattle.calls.specs.Step.{reader}
+use Rattle.calls.specs.LookBack.{reader}
 use Rattle.timeslice.specs.declared.Counts.{Counts}
 use Rattle.timeslice.specs.declared.rows.Took.{Took}
 use Rattle.timeslice.specs.declared.rows.Took.the-variants.{Rows, TooMany as MoreThan}

@@ -9,7 +9,7 @@ ghost use lib.Dec.{eqb};
 ghost use lib.ListN.{length};
 ghost use Rattle.layout.specs.Sizes.{pageLen};
 ghost use Rattle.calls.specs.Walk.{lastUpTo, entries as entriesOf, topLevel, lookUp, descend as descendOf, search as searchOf};
-ghost use Rattle.calls.specs.Step.{reader};
+ghost use Rattle.calls.specs.LookBack.{reader};
 ghost use Rattle.timeslice.specs.Searching.{startOf, passOver, searchedOf, Level, OnPage, OnEntry};
 ghost use Rattle.timeslice.specs.Told.{Readable};
 

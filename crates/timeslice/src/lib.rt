@@ -14,7 +14,7 @@ ghost use mathlib.Core.Path.{_≡_};
 ghost use Rattle.layout.specs.Settings.{Within};
 ghost use Rattle.layout.specs.HeadLaws.{HeadRead};
 ghost use Rattle.calls.specs.Refusals.{refusal as refusalOf};
-ghost use Rattle.calls.specs.Step.{lookAt, zeros};
+ghost use Rattle.calls.specs.LookBack.{lookAt, zeros};
 ghost use Rattle.timeslice.specs.Told.{Readable, Buffers};
 ghost use Rattle.timeslice.specs.Answer.{LookedBack, Sees, Answers, ownTests};
 

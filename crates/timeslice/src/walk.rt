@@ -10,7 +10,7 @@ use layout::settings::Settings;
 ghost use mathlib.Core.Path.{_≡_};
 ghost use Rattle.layout.specs.Address.{Numbered};
 ghost use Rattle.calls.specs.Walk.{neighbour as neighbourOf};
-ghost use Rattle.calls.specs.Step.{reader};
+ghost use Rattle.calls.specs.LookBack.{reader};
 ghost use Rattle.timeslice.specs.Taken.{RowRoom};
 ghost use Rattle.timeslice.specs.Told.{Told, VisitTold, PathTold, blockWalk, Climbs, Readable, Blocks, Space, Gap, Reach, Under};
 ghost use Rattle.timeslice.specs.Listed.{Enters, VisitListed, InsideListed, ListRoom, InsideRoom};
