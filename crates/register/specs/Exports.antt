@@ -3,7 +3,8 @@ use mathlib.Core.Path.{_≡_}
 use mathlib.Core.List.{List, [], _∷_}
 use Prim.Native.Nat.{ℕ}
 use lib.Seq.{sets}
-use Rattle.calls.specs.Calls.{Answer, Done, Shown, Refused, Reply}
+use Rattle.calls.specs.Calls.{Ask, LookBack, Answer, Done, Shown, Refused, Reply}
+use Rattle.calls.specs.Step.{step}
 use Rattle.timeslice.specs.declared.Slice.{Slice}
 use Rattle.timeslice.specs.Answer.{sliceOf}
 
@@ -27,10 +28,8 @@ sixAfter (Done h) six = six
 sixAfter (Shown v) six = sets six 0 (sixWords (sliceOf v))
 sixAfter (Refused n) six = six
 
--- a look-back, which only reads the store
-pub record ToldBack (r : Reply) (n : ℕ) (words rows list six six′ : List ℕ) : Type 0 where
-  pub number : n ≡ numberOf (r .answer)
-  pub store : words ≡ r .store
-  pub row-words : rows ≡ r .rows
-  pub list-words : list ≡ r .list
-  pub six-words : six′ ≡ sixAfter (r .answer) six
+-- a look-back: its number, its two buffers and the six words; the store is lent to be read only
+pub record ToldBack (ws : List ℕ) (t : ℕ) (rows list six : List ℕ) (n : ℕ) (rows′ list′ six′ : List ℕ) : Type 0 where
+  pub number : n ≡ numberOf (step ws (Ask (LookBack t rows list)) .answer)
+  pub buffers : rows′ ∷ list′ ∷ [] ≡ step ws (Ask (LookBack t rows list)) .lent
+  pub six-words : six′ ≡ sixAfter (step ws (Ask (LookBack t rows list)) .answer) six

@@ -11,7 +11,7 @@ use timeslice::Slice;
 ghost use mathlib.Core.Path.{_≡_};
 ghost use lib.Seq.{sets};
 ghost use Rattle.layout.specs.Settings.{settingsOf};
-ghost use Rattle.calls.specs.Calls.{Start, Set, Clear, Update, Advance, LookBack};
+ghost use Rattle.calls.specs.Calls.{Start, Set, Clear, Update, Advance};
 ghost use Rattle.calls.specs.Step.{step};
 ghost use Rattle.changes.specs.Replied.{answerOf};
 ghost use Rattle.register.specs.Exports.{numberOf, sixWords, Told, ToldBack};
@@ -92,7 +92,7 @@ pub extern "C" fn register_look_back(
     list: &mut [u32],
     answer: &mut [u32; 6],
 ) -> u32
-    ensures { λ r. ⌜ ToldBack (step (now (store .entry)) (LookBack second (now (rows .entry)) (now (list .entry)))) r (now (store .entry)) (now (rows .exit)) (now (list .exit)) (now (answer .entry)) (now (answer .exit)) ⌝ }
+    ensures { λ r. ⌜ ToldBack (now (store .entry)) second (now (rows .entry)) (now (list .entry)) (now (answer .entry)) r (now (rows .exit)) (now (list .exit)) (now (answer .exit)) ⌝ }
 {
     let looked = timeslice::look_back(store, second, rows, list);
     match looked {
