@@ -61,7 +61,7 @@ pub called-is : {store rows list store′ rows′ list′ : List ℕ} {call : Ca
     → Applied store call rows list a store′ rows′ list′ → t ≡ answered done refused time a
     → does t store′ rows′ list′ ≡ called done refused time call (lent store rows list)
 unfolding called
-called-is done refused time p e = rw (e, p .answer, p .store, p .row-words, p .list-words)
+called-is done refused time p e = rw (e, p .answer, p .store, ← (p .buffers))
 
 -- ---- the settings, as they were read
 module _ {read line : SettingsLine} (words : Lent) (e : read ≡ line) where
