@@ -1,8 +1,12 @@
 -- From what the calls in code answer to what a caller by numbers is told.
-use mathlib.Core.Path.{_≡_, refl, ap, ap₂, _∙_}
+use mathlib.Core.Path.{_≡_, refl, sym, ap, ap₂, _∙_}
+use mathlib.Core.Bool.{Bool, true, false}
 use mathlib.Core.List.{List, [], _∷_}
 use Prim.Native.Nat.{ℕ}
 use lib.Seq.{sets}
+use Rattle.layout.specs.declared.settings.Settings.{Settings}
+use Rattle.layout.specs.Settings.{inLimits, Within}
+use Rattle.layout.specs.SettingsLaws.{limits-within, StoreLong}
 use Rattle.calls.specs.Calls.{Answer, Reply}
 use Rattle.calls.specs.LookBack.{lookBack}
 use Rattle.changes.specs.declared.Change.{Change}
@@ -11,11 +15,11 @@ use Rattle.timeslice.specs.declared.Slice.{Slice}
 use Rattle.timeslice.specs.declared.Looked.{Looked}
 use Rattle.timeslice.specs.declared.Looked.the-variants as looked
 use Rattle.timeslice.specs.Answer.{Says, view, number, LookedBack}
-use Rattle.register.specs.Exports.{numberOf, sixWords, sixAfter, Told, ToldBack}
+use Rattle.register.specs.Exports.{numberOf, sixWords, sixAfter, Exported, ExportedLookBack, wordsFor}
 
 -- ---- a start, change or clock move
-pub told : {r : Reply} {c : Change} {n : ℕ} {words : List ℕ} → Replied r c words → n ≡ numberOf (answerOf c) → Told r n words
-told e f = record { number = f ∙ ap numberOf (e .answer); store = e .store }
+pub exported : {r : Reply} {c : Change} {n : ℕ} {words : List ℕ} → Replied r c words → n ≡ numberOf (answerOf c) → Exported r n words
+exported e f = record { number = f ∙ ap numberOf (e .answer); store = e .store }
 
 -- ---- a look-back: refused, or answered with six words
 module _ {ws rows list rows′ list′ : List ℕ} {t : ℕ} {l : Looked} (b : LookedBack ws t rows list l rows′ list′) (six : List ℕ) where
@@ -23,7 +27,7 @@ module _ {ws rows list rows′ list′ : List ℕ} {t : ℕ} {l : Looked} (b : L
   abbrev told-so : Answer → ℕ → List ℕ → Type 0
   told-so a n six′ = (n ≡ numberOf a) × (six′ ≡ sixAfter a six)
 
-  told-back : {n : ℕ} {six′ : List ℕ} → told-so (lookBack ws t rows list .answer) n six′ → ToldBack ws t rows list six n rows′ list′ six′
+  told-back : {n : ℕ} {six′ : List ℕ} → told-so (lookBack ws t rows list .answer) n six′ → ExportedLookBack ws t rows list six n rows′ list′ six′
   told-back p = record { number = p .0; buffers = ap₂ (λ (x y : List ℕ). x ∷ y ∷ []) (b .row-words) (b .list-words); six-words = p .1 }
 
   refused-so : {a : Answer} {n : ℕ} → Says a (looked.Refused n) → told-so a n six
@@ -32,8 +36,19 @@ module _ {ws rows list rows′ list′ : List ℕ} {t : ℕ} {l : Looked} (b : L
   answered-so : {a : Answer} {s : Slice} → Says a (looked.Answered s) → told-so a 0 (sets six 0 (sixWords s))
   answered-so (view e) = (refl, ap (λ (x : Slice). sets six 0 (sixWords x)) e)
 
-  pub refused-back : {n : ℕ} → l ≡ looked.Refused n → ToldBack ws t rows list six n rows′ list′ six
+  pub refused-back : {n : ℕ} → l ≡ looked.Refused n → ExportedLookBack ws t rows list six n rows′ list′ six
   refused-back e = told-back (refused-so (rw e at (b .answer)))
 
-  pub answered-back : {s : Slice} {six′ : List ℕ} → l ≡ looked.Answered s → six′ ≡ sets six 0 (sixWords s) → ToldBack ws t rows list six 0 rows′ list′ six′
+  pub answered-back : {s : Slice} {six′ : List ℕ} → l ≡ looked.Answered s → six′ ≡ sets six 0 (sixWords s) → ExportedLookBack ws t rows list six 0 rows′ list′ six′
   answered-back e f = let p = answered-so (rw e at (b .answer)) in told-back (p .0, f ∙ p .1)
+
+-- ---- how many words a store takes
+module _ (s : Settings) where
+  pub words-within : {b : Bool} → b ≡ inLimits s → b ≡ true → Within s
+  words-within e f = limits-within s (sym e ∙ f)
+
+  pub words-taken : {b : Bool} {n : ℕ} → b ≡ inLimits s → b ≡ true → StoreLong s n → n ≡ wordsFor s
+  words-taken e f l = let g : inLimits s ≡ true = sym e ∙ f in rw g (l .is)
+
+  pub words-none : {b : Bool} → b ≡ inLimits s → b ≡ false → 0 ≡ wordsFor s
+  words-none e f = let g : inLimits s ≡ false = sym e ∙ f in rw g
