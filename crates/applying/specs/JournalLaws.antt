@@ -15,7 +15,6 @@ use Rattle.changes.specs.declared.Change.{Change}
 use Rattle.changes.specs.declared.Change.the-variants as change
 use Rattle.changes.specs.Replied.{Replied, answerOf}
 use Rattle.theory.specs.EveryLookBack.{every-call}
-use Rattle.applying.specs.declared.journal.Tally.{Tally}
 use Rattle.applying.specs.declared.journal.Played.{Played}
 use Rattle.applying.specs.declared.journal.Played.the-variants.{Counts, Ends}
 use Rattle.applying.specs.Journal.{Entry, says, nothing, entryOf, entryAt, before, journalOf, acceptedIn, Replayed, countsAs, playing, afterEntry, Plays}

@@ -1,6 +1,6 @@
 -- DEMAND 3 OF RUNNING CODE: for a fresh register, after a replay of any journal, what is claimed of every list of calls (calls.specs.Claims) holds of the
 -- words left. It follows from the theorem over the definitions (theory.specs.Whole) and the replay's own contract.
-use mathlib.Core.Path.{_≡_, refl, sym, subst}
+use mathlib.Core.Path.{_≡_, sym, subst}
 use mathlib.Core.Bool.{true}
 use mathlib.Core.List.{List}
 use Prim.Native.Nat.{ℕ}

@@ -4,8 +4,7 @@ use layout::head::Head;
 use timeslice::Looked;
 use timeslice::Slice;
 ghost use mathlib.Core.Path.{_≡_};
-ghost use Rattle.calls.specs.Step.{step};
-ghost use Rattle.applying.specs.Applied.{changeAnswer, lookedAnswer, callOf, Applied};
+ghost use Rattle.applying.specs.Applied.{changeAnswer, lookedAnswer, Applied};
 
 // The six calls. A look-back's two buffers are lent beside it.
 pub enum Call {

@@ -1,17 +1,15 @@
 -- ONE CALL on any words: its answer, and all lent words as it leaves them, refused calls too.
-use mathlib.Core.Bool.{Bool, true, false, cond, _||_}
-use mathlib.Core.List.{List, [], _∷_, _++_}
-use Prim.Native.Nat.{ℕ, _+_}
+use mathlib.Core.Bool.{cond}
+use mathlib.Core.List.{List, [], _∷_}
+use Prim.Native.Nat.{ℕ}
 use lib.Dec.{eqb}
-use lib.ListN.{length, drop, replicate}
+use lib.ListN.{length}
 use Rattle.layout.specs.declared.settings.Settings.{Settings}
 use Rattle.layout.specs.declared.head.Cursor.{Cursor}
 use Rattle.layout.specs.declared.head.Head.{Head}
-use Rattle.layout.specs.Sizes.{OPEN}
 use Rattle.layout.specs.Memory.{Memory}
 use Rattle.layout.specs.Program.{Prog, run}
 use Rattle.layout.specs.Head.{headOf, withHead, cleared}
-use Rattle.layout.specs.Parts.{blockPart, levelPart, pagePart}
 use Rattle.layout.specs.OnWords.{over}
 use Rattle.calls.specs.Calls.{Query, LookBack, Call, Start, Set, Clear, Update, Advance, Ask, Answer, Done, Refused, Reply}
 use Rattle.calls.specs.Placing.{setProgram, clearProgram, updateProgram, advanceProgram}

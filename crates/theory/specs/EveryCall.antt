@@ -18,7 +18,7 @@ use Rattle.layout.specs.Head.{headOf, withHead, cleared}
 use Rattle.layout.specs.Program.{Prog}
 use Rattle.layout.specs.ProgramLaws.{run-length}
 use Rattle.layout.specs.OnWords.{over}
-use Rattle.calls.specs.Calls.{Query, Call, Start, Set, Clear, Update, Advance, Ask, Answer, Done, Refused, accepted, Reply}
+use Rattle.calls.specs.Calls.{Call, Start, Set, Clear, Update, Advance, Ask, Answer, Done, Refused, accepted, Reply}
 use Rattle.calls.specs.Placing.{setProgram, clearProgram, updateProgram, advanceProgram}
 use Rattle.calls.specs.Refusals.{Test, refusal}
 use Rattle.calls.specs.Claims.{First, EveryCall, lentBy, zeroed}

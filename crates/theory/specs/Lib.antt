@@ -66,6 +66,7 @@ pub mod Started
 pub mod OneChange
 pub mod AnyChange
 pub mod EveryCall
+pub mod QueryLaws
 pub mod EveryLookBack
 -- Words after a history, and the theorems
 pub mod LookReady

@@ -1,11 +1,9 @@
 -- A store alike, on any words: one with the same length, head, index pages passed and listed blocks gets the same answer to a look-back, both buffers'
 -- final words included (store-alike). The refusals see only length and head; the walk sees only the pages passed and the listed blocks.
-use mathlib.Core.Path.{_≡_, refl, sym, ap, _∙_}
-use mathlib.Core.Bool.{Bool, true, false, _||_}
+use mathlib.Core.Path.{_≡_, sym, ap, _∙_}
 use mathlib.Core.List.{List, [], _∷_}
 use Prim.Native.Nat.{ℕ, _<_}
 use native.Mathlib.Omega.{arith}
-use lib.Dec.{eqb}
 use lib.ListN.{length, getD, take}
 use lib.Seq.{getD-take}
 use Rattle.base.specs.Sums.{all-map}
@@ -14,7 +12,7 @@ use Rattle.layout.specs.Sizes.{OPEN, headLen}
 use Rattle.layout.specs.Head.{headOf, badHead}
 use Rattle.layout.specs.Parts.{blockPart}
 use Rattle.calls.specs.Calls.{View}
-use Rattle.calls.specs.Walk.{Pass, Looked, unsoundly, looked}
+use Rattle.calls.specs.Walk.{Pass}
 use Rattle.calls.specs.LookBack.{SliceReply, reader, lookAt, lookBack}
 use Rattle.calls.specs.Claims.{Alike, StoreAlike}
 use Rattle.theory.specs.AlikeReaders.{SameBlock, SamePage, look-alike}
