@@ -5,31 +5,25 @@ use register::calls;
 /// The calls of the proved register.
 pub struct Proved;
 
-/// A refusal of the crate `register` by its number, which is all that the two have in common.
-#[inline]
-fn told(result: Result<(), register::Refusal>) -> Result<(), Refusal> {
-    result.map_err(|refusal| Refusal::numbered(refusal.number()))
-}
-
 impl Calls for Proved {
     fn start(store: &mut [u32], s: Settings) -> Result<(), Refusal> {
-        told(calls::start(store, s.block, s.useful, s.blocks, s.tags))
+        Refusal::told(calls::start(store, s.block, s.useful, s.blocks, s.tags))
     }
 
     fn set(store: &mut [u32], second: u32, tag: u32, reading: i32) -> Result<(), Refusal> {
-        told(calls::set(store, second, tag, reading))
+        Refusal::told(calls::set(store, second, tag, reading))
     }
 
     fn clear(store: &mut [u32], second: u32, tag: u32) -> Result<(), Refusal> {
-        told(calls::clear(store, second, tag))
+        Refusal::told(calls::clear(store, second, tag))
     }
 
     fn update(store: &mut [u32], second: u32, tag: u32, reading: i32) -> Result<(), Refusal> {
-        told(calls::update(store, second, tag, reading))
+        Refusal::told(calls::update(store, second, tag, reading))
     }
 
     fn advance(store: &mut [u32], second: u32) -> Result<(), Refusal> {
-        told(calls::advance(store, second))
+        Refusal::told(calls::advance(store, second))
     }
 
     fn look_back(store: &[u32], second: u32, rows: &mut [u32], list: &mut [u32]) -> Result<Answer, Refusal> {
@@ -48,7 +42,7 @@ impl Proved {
         list: &mut [u32],
         answer: &mut [u32; 6],
     ) -> Result<(), Refusal> {
-        told(calls::look_back(store, second, rows, list, answer))
+        Refusal::told(calls::look_back(store, second, rows, list, answer))
     }
 
     /// Makes the calls of a journal: entries read, entries accepted.

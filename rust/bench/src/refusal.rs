@@ -35,11 +35,20 @@ impl Refusal {
     /// The change would open a block and none is left.
     pub const OUT_OF_BLOCKS: Refusal = Refusal::numbered(13);
 
-    /// The refusal of a number that is not 0.
-    pub const fn numbered(number: u32) -> Refusal {
+    /// The refusal of a number that is not 0; for use in constants.
+    const fn numbered(number: u32) -> Refusal {
         match NonZeroU32::new(number) {
             Some(number) => Refusal(number),
             None => panic!("0 is no refusal"),
+        }
+    }
+
+    /// A call's result as the proved register gives it, by number: 0 is accepted.
+    #[cfg(feature = "proved")]
+    pub(crate) fn told(number: u32) -> Result<(), Refusal> {
+        match NonZeroU32::new(number) {
+            None => Ok(()),
+            Some(number) => Err(Refusal(number)),
         }
     }
 

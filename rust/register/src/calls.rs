@@ -1,17 +1,22 @@
 //! The calls as `libregister.a` exports them, on any words: nothing is tested here before the register tests it.
 //!
 //! [`Register`](crate::Register) is the face for programs. These functions are what it calls, for tests and for callers
-//! that keep their stores in another way. A store is passed with each call, settings and seconds are plain numbers, and
-//! a store that is no register's is refused.
+//! that keep their stores in another way. A store is passed with each call, a store that is no register's is refused,
+//! and the result is a number: 0 if the call was accepted, else the refusal's.
+//! [`Refusal::result_of`](crate::Refusal::result_of) makes a `Result` of it.
 //!
 //! Why this is safe: a slice is passed as its pointer and its number of words (include/register.h), and the proofs
 //! assume of a caller what Rust's borrows give: the words are there, aligned, and no two lent parts overlap while one
 //! of them is written. A look-back may take 190 bytes of stack for each of B blocks; a thread's usual 2 MB hold 4,096.
 //!
-//! # Panics
+//! ```
+//! use register::{Refusal, calls};
 //!
-//! If the archive answers a number above 13: it is newer than this wrapper, and has refusals that this does not know.
-use crate::Refusal;
+//! let mut store = [0; 4592];
+//! assert_eq!(calls::start(&mut store, 4, 2, 8, 16), 0);
+//! assert_eq!(calls::clear(&mut store, 1, 3), 10);
+//! assert_eq!(Refusal::result_of(10), Err(Refusal::NotStanding));
+//! ```
 
 mod export {
     unsafe extern "C" {
@@ -45,93 +50,60 @@ mod export {
     }
 }
 
-/// An export's result: 0 is accepted.
-#[inline]
-fn told(number: u32) -> Result<(), Refusal> {
-    match Refusal::from_number(number) {
-        Some(refusal) => Err(refusal),
-        None if number == 0 => Ok(()),
-        None => newer(number),
-    }
-}
-
-#[cold]
-fn newer(number: u32) -> ! {
-    panic!("libregister.a answered {number}: it is newer than this wrapper, which knows 13 refusals")
-}
-
 /// Begins a new history: fills the layout with zeros, then the head. Words beyond the layout are untouched.
-///
-/// # Errors
-///
-/// [`Refusal::Settings`], [`Refusal::ShortHead`], [`Refusal::ShortStore`].
+/// Refusals 1, 2, 4.
 #[inline]
-pub fn start(store: &mut [u32], block: u32, useful: u32, blocks: u32, tags: u32) -> Result<(), Refusal> {
+#[must_use = "0 is accepted, any other number a refusal"]
+pub fn start(store: &mut [u32], block: u32, useful: u32, blocks: u32, tags: u32) -> u32 {
     // SAFETY: pointer and length are those of one borrowed slice; so for each call below.
-    told(unsafe { export::register_start(store.as_mut_ptr(), store.len(), block, useful, blocks, tags) })
+    unsafe { export::register_start(store.as_mut_ptr(), store.len(), block, useful, blocks, tags) }
 }
 
 /// Sets a tag with a reading in daN.
-///
-/// # Errors
-///
-/// Refusals 2 to 6, [`Refusal::Tag`], [`Refusal::Standing`], [`Refusal::Unsound`], [`Refusal::OutOfBlocks`].
+/// Refusals 2 to 6, 8, 9, 12, 13.
 #[inline]
-pub fn set(store: &mut [u32], second: u32, tag: u32, reading: i32) -> Result<(), Refusal> {
+#[must_use = "0 is accepted, any other number a refusal"]
+pub fn set(store: &mut [u32], second: u32, tag: u32, reading: i32) -> u32 {
     // SAFETY: as above.
-    told(unsafe { export::register_set(store.as_mut_ptr(), store.len(), second, tag, reading.cast_unsigned()) })
+    unsafe { export::register_set(store.as_mut_ptr(), store.len(), second, tag, reading.cast_unsigned()) }
 }
 
 /// Clears a tag that stands.
-///
-/// # Errors
-///
-/// Refusals 2 to 6, [`Refusal::Tag`], [`Refusal::NotStanding`], [`Refusal::Unsound`], [`Refusal::OutOfBlocks`].
+/// Refusals 2 to 6, 8, 10, 12, 13.
 #[inline]
-pub fn clear(store: &mut [u32], second: u32, tag: u32) -> Result<(), Refusal> {
+#[must_use = "0 is accepted, any other number a refusal"]
+pub fn clear(store: &mut [u32], second: u32, tag: u32) -> u32 {
     // SAFETY: as above.
-    told(unsafe { export::register_clear(store.as_mut_ptr(), store.len(), second, tag) })
+    unsafe { export::register_clear(store.as_mut_ptr(), store.len(), second, tag) }
 }
 
 /// Gives a standing tag a new reading: a clear and a set at the same second, also if the reading is equal.
-///
-/// # Errors
-///
-/// As for [`clear`].
+/// Refusals 2 to 6, 8, 10, 12, 13.
 #[inline]
-pub fn update(store: &mut [u32], second: u32, tag: u32, reading: i32) -> Result<(), Refusal> {
+#[must_use = "0 is accepted, any other number a refusal"]
+pub fn update(store: &mut [u32], second: u32, tag: u32, reading: i32) -> u32 {
     // SAFETY: as above.
-    told(unsafe { export::register_update(store.as_mut_ptr(), store.len(), second, tag, reading.cast_unsigned()) })
+    unsafe { export::register_update(store.as_mut_ptr(), store.len(), second, tag, reading.cast_unsigned()) }
 }
 
 /// Moves the clock.
-///
-/// # Errors
-///
 /// Refusals 2 to 6.
 #[inline]
-pub fn advance(store: &mut [u32], second: u32) -> Result<(), Refusal> {
+#[must_use = "0 is accepted, any other number a refusal"]
+pub fn advance(store: &mut [u32], second: u32) -> u32 {
     // SAFETY: as above.
-    told(unsafe { export::register_advance(store.as_mut_ptr(), store.len(), second) })
+    unsafe { export::register_advance(store.as_mut_ptr(), store.len(), second) }
 }
 
 /// What stood at a second. `rows` gets tag and reading of each row, `list` the numbers of the blocks read, `answer` the
 /// numbers of rows, pages read and blocks listed and the page passed on each level, [`OPEN`](crate::OPEN) if none.
 /// Words after these keep their contents, and a refusal leaves `answer`.
-///
-/// # Errors
-///
-/// Refusals 2 to 5, [`Refusal::Late`], [`Refusal::ShortBuffer`], [`Refusal::Unsound`].
+/// Refusals 2 to 5, 7, 11, 12.
 #[inline]
-pub fn look_back(
-    store: &[u32],
-    second: u32,
-    rows: &mut [u32],
-    list: &mut [u32],
-    answer: &mut [u32; 6],
-) -> Result<(), Refusal> {
+#[must_use = "0 is accepted, any other number a refusal"]
+pub fn look_back(store: &[u32], second: u32, rows: &mut [u32], list: &mut [u32], answer: &mut [u32; 6]) -> u32 {
     // SAFETY: pointers and lengths are those of borrowed slices, and Rust's borrows keep the four apart.
-    told(unsafe {
+    unsafe {
         export::register_look_back(
             store.as_ptr(),
             store.len(),
@@ -142,7 +114,7 @@ pub fn look_back(
             list.len(),
             answer,
         )
-    })
+    }
 }
 
 /// Words of a store with these settings, as the register counts them; 0 where a start would refuse them.

@@ -115,12 +115,8 @@ impl Entry {
 impl From<Settings> for Entry {
     /// A start.
     fn from(settings: Settings) -> Entry {
-        Entry::Start {
-            block: settings.block(),
-            useful: settings.useful(),
-            blocks: settings.blocks(),
-            tags: settings.tags(),
-        }
+        let Settings { block, useful, blocks, tags } = settings;
+        Entry::Start { block, useful, blocks, tags }
     }
 }
 

@@ -56,7 +56,7 @@ impl OwnedRegister {
     ///
     /// As for [`Register::set`].
     pub fn set(&mut self, second: u32, tag: u32, reading: i32) -> Result<(), Refusal> {
-        calls::set(&mut self.store, second, tag, reading)
+        Refusal::result_of(calls::set(&mut self.store, second, tag, reading))
     }
 
     /// Clears a tag that stands: see [`Register::clear`].
@@ -65,7 +65,7 @@ impl OwnedRegister {
     ///
     /// As for [`Register::clear`].
     pub fn clear(&mut self, second: u32, tag: u32) -> Result<(), Refusal> {
-        calls::clear(&mut self.store, second, tag)
+        Refusal::result_of(calls::clear(&mut self.store, second, tag))
     }
 
     /// Gives a standing tag a new reading: see [`Register::update`].
@@ -74,7 +74,7 @@ impl OwnedRegister {
     ///
     /// As for [`Register::update`].
     pub fn update(&mut self, second: u32, tag: u32, reading: i32) -> Result<(), Refusal> {
-        calls::update(&mut self.store, second, tag, reading)
+        Refusal::result_of(calls::update(&mut self.store, second, tag, reading))
     }
 
     /// Moves the clock.
@@ -83,7 +83,7 @@ impl OwnedRegister {
     ///
     /// As for [`Register::advance`].
     pub fn advance(&mut self, second: u32) -> Result<(), Refusal> {
-        calls::advance(&mut self.store, second)
+        Refusal::result_of(calls::advance(&mut self.store, second))
     }
 
     /// What stood at a second up to the clock, in words that the answer holds. (Who looks back often lends the same
@@ -96,12 +96,20 @@ impl OwnedRegister {
         let settings = self.settings();
         let (mut rows, mut list) = (vec![0; settings.row_words()], vec![0; settings.list_words()]);
         let mut answer = [0; 6];
-        calls::look_back(&self.store, second, &mut rows, &mut list, &mut answer)?;
+        Refusal::result_of(calls::look_back(&self.store, second, &mut rows, &mut list, &mut answer))?;
         let cut = |mut words: Vec<u32>, count| {
             words.truncate(count);
             words
         };
         Ok(LookBack::new(rows, list, answer, cut))
+    }
+
+    /// Makes the calls of a journal: see [`Register::replay`]. The words are not made more: a start among the entries
+    /// that needs more is refused.
+    #[cfg(feature = "replay")]
+    #[must_use = "it says how many entries were read, which may be fewer than the journal has"]
+    pub fn replay(&mut self, journal: &[u32]) -> crate::Tally {
+        calls::replay(&mut self.store, journal)
     }
 
     /// The settings that the register was started with.

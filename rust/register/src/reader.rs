@@ -45,7 +45,7 @@ impl<'a> Reader<'a> {
     ///
     /// [`Refusal::ShortHead`], [`Refusal::Head`], [`Refusal::ShortStore`].
     pub fn open(store: &'a [u32]) -> Result<Reader<'a>, Refusal> {
-        match calls::look_back(store, OPEN, &mut [], &mut [], &mut [0; 6]) {
+        match Refusal::result_of(calls::look_back(store, OPEN, &mut [], &mut [], &mut [0; 6])) {
             Err(Refusal::TimeOpen) => Ok(Reader { store }),
             Err(refusal) => Err(refusal),
             Ok(()) => unreachable!("a look-back at OPEN is refused"),
@@ -96,7 +96,7 @@ impl<'a> Reader<'a> {
         list: &'b mut [u32],
     ) -> Result<LookBack<&'b [u32]>, Refusal> {
         let mut answer = [0; 6];
-        calls::look_back(self.store, second, rows, list, &mut answer)?;
+        Refusal::result_of(calls::look_back(self.store, second, rows, list, &mut answer))?;
         Ok(LookBack::new(rows, list, answer, |words, count| &words[..count]))
     }
 }

@@ -97,6 +97,24 @@ impl Refusal {
         })
     }
 
+    /// What a call of [`calls`](crate::calls) answered: 0 is accepted.
+    ///
+    /// # Errors
+    ///
+    /// The refusal of that number.
+    ///
+    /// # Panics
+    ///
+    /// If the number is above 13: the archive is newer than this wrapper and has refusals that it does not know.
+    #[inline]
+    pub fn result_of(number: u32) -> Result<(), Refusal> {
+        match Refusal::from_number(number) {
+            Some(refusal) => Err(refusal),
+            None if number == 0 => Ok(()),
+            None => panic!("libregister.a answered {number}: it is newer than this wrapper, which knows 13 refusals"),
+        }
+    }
+
     /// The refusal in plain words, without its number; `register_refusal_text` has the same for C.
     #[must_use]
     pub const fn text(self) -> &'static str {

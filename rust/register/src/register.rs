@@ -34,7 +34,8 @@ impl<'a> Register<'a> {
     ///
     /// [`Refusal::ShortHead`] and [`Refusal::ShortStore`], if the store has fewer than [`Settings::words`].
     pub fn start(store: &'a mut [u32], settings: Settings) -> Result<Register<'a>, Refusal> {
-        calls::start(store, settings.block(), settings.useful(), settings.blocks(), settings.tags())?;
+        let Settings { block, useful, blocks, tags } = settings;
+        Refusal::result_of(calls::start(store, block, useful, blocks, tags))?;
         Ok(Register { store })
     }
 
@@ -56,7 +57,7 @@ impl<'a> Register<'a> {
     /// [`Refusal::TimeOpen`], [`Refusal::Early`], [`Refusal::Tag`], [`Refusal::Standing`], [`Refusal::OutOfBlocks`];
     /// [`Refusal::Unsound`] if something else wrote the store.
     pub fn set(&mut self, second: u32, tag: u32, reading: i32) -> Result<(), Refusal> {
-        calls::set(self.store, second, tag, reading)
+        Refusal::result_of(calls::set(self.store, second, tag, reading))
     }
 
     /// Clears a tag that stands.
@@ -67,7 +68,7 @@ impl<'a> Register<'a> {
     /// [`Refusal::OutOfBlocks`] (a clear may close a block, whose records are then placed again);
     /// [`Refusal::Unsound`] if something else wrote the store.
     pub fn clear(&mut self, second: u32, tag: u32) -> Result<(), Refusal> {
-        calls::clear(self.store, second, tag)
+        Refusal::result_of(calls::clear(self.store, second, tag))
     }
 
     /// Gives a standing tag a new reading: a clear and a set at the same second, also if the reading is equal.
@@ -76,7 +77,7 @@ impl<'a> Register<'a> {
     ///
     /// As for [`clear`](Register::clear).
     pub fn update(&mut self, second: u32, tag: u32, reading: i32) -> Result<(), Refusal> {
-        calls::update(self.store, second, tag, reading)
+        Refusal::result_of(calls::update(self.store, second, tag, reading))
     }
 
     /// Moves the clock.
@@ -85,7 +86,7 @@ impl<'a> Register<'a> {
     ///
     /// [`Refusal::TimeOpen`], [`Refusal::Early`].
     pub fn advance(&mut self, second: u32) -> Result<(), Refusal> {
-        calls::advance(self.store, second)
+        Refusal::result_of(calls::advance(self.store, second))
     }
 
     /// What stood at a second up to the clock: see [`Reader::look_back`].

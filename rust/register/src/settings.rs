@@ -26,10 +26,10 @@ use crate::Refusal;
 /// ```
 #[derive(Clone, Copy, Debug, PartialEq, Eq, Hash)]
 pub struct Settings {
-    block: u32,
-    useful: u32,
-    blocks: u32,
-    tags: u32,
+    pub(crate) block: u32,
+    pub(crate) useful: u32,
+    pub(crate) blocks: u32,
+    pub(crate) tags: u32,
 }
 
 // The longest layout has some 1.1 million words; a `usize` of 16 bits could not count them.
