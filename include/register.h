@@ -1,10 +1,10 @@
 /* register.h - the look-back register of a rope tension monitor, proved: the calls of libregister.a, and their manual.
  *
- * A register keeps conditions (a tag with a reading in daN: a tension outside its band, a sheave off, a gauge in doubt)
- * as they are set, cleared and given new readings. A look-back tells what stood at any past second; it reads only blocks
- * that were open then, and at most as many again. The code is written in Rattle, and a checker has proved that each call
- * answers and writes what its definition says for every content of the lent words, honest or not. Document 01 is the
- * paper that it renders, docs/LAYOUT.md has the words of a store.
+ * A register keeps conditions (a tag with a reading in daN: a tension outside its band, a sheave off, a gauge in
+ * doubt) as they are set, cleared and given new readings. A look-back tells what stood at any past second; it reads
+ * only blocks that were open then, and at most as many again. The code is written in Rattle, and a checker has proved
+ * that each call answers and writes what its definition says for every content of the lent words, honest or not.
+ * Document 01 is the paper that it renders, docs/LAYOUT.md has the words of a store.
  *
  * AN EXAMPLE. It prints `tag 3: -25 daN`: what stood at second 11 of tag 3, set at 10 and cleared at 12.
  *
@@ -112,9 +112,9 @@ enum register_result {
     /* The store has fewer than 16 words, so not even a head. Lend all of it. */
     REGISTER_SHORT_HEAD = 2,
 
-    /* The head has another mark than 7001, settings outside limits, N above B, clock OPEN, one of its last six words not
-     * zero, or a fill not 1 to b (not 0, for N = 0): the store was never started, or something else wrote it. Start it,
-     * or take an older copy. */
+    /* The head has another mark than 7001, settings outside limits, N above B, clock OPEN, one of its last six words
+     * not zero, or a fill not 1 to b (not 0, for N = 0): the store was never started, or something else wrote it.
+     * Start it, or take an older copy. */
     REGISTER_HEAD = 3,
 
     /* The store is shorter than its layout. Lend REGISTER_WORDS words. */
@@ -158,16 +158,17 @@ const char *register_refusal_text(uint32_t result);
  * zeros, then the head; the clock is 0. Refusals 1, 2, 4. */
 uint32_t register_start(uint32_t *store, size_t words, uint32_t block, uint32_t useful, uint32_t blocks, uint32_t tags);
 
-/* Sets a tag, 0 to D - 1, with a reading in daN; a negative reading v is passed as 4294967296 + v, C's (uint32_t)v. The
- * second becomes the clock, as in each accepted change; several changes may share one. Refusals 2 to 6, 8, 9, 12, 13. */
+/* Sets a tag, 0 to D - 1, with a reading in daN; a negative reading v is passed as 4294967296 + v, C's (uint32_t)v.
+ * The second becomes the clock, as in each accepted change; several changes may share one.
+ * Refusals 2 to 6, 8, 9, 12, 13. */
 uint32_t register_set(uint32_t *store, size_t words, uint32_t second, uint32_t tag, uint32_t reading);
 
-/* Clears a tag that stands; one that is set and cleared within a second never shows. Refusals 2 to 6, 8, 10, 12, 13 (a
- * clear may close a block, whose records are then placed again). */
+/* Clears a tag that stands; one that is set and cleared within a second never shows.
+ * Refusals 2 to 6, 8, 10, 12, 13 (a clear may close a block, whose records are then placed again). */
 uint32_t register_clear(uint32_t *store, size_t words, uint32_t second, uint32_t tag);
 
-/* Gives a standing tag a new reading: a clear and a set at the same second, also if the reading is equal. Refusals as of
- * a clear. */
+/* Gives a standing tag a new reading: a clear and a set at the same second, also if the reading is equal.
+ * Refusals 2 to 6, 8, 10, 12, 13. */
 uint32_t register_update(uint32_t *store, size_t words, uint32_t second, uint32_t tag, uint32_t reading);
 
 /* Moves the clock. Refusals 2 to 6. */

@@ -1,9 +1,9 @@
 //! What the proved register is tested against and measured with.
 //!
-//! [`Independent`] is a second implementation, written from document 01 alone. [`Proved`] is the proved one: the calls of
-//! the crate `register`, by plain numbers, so that any words, lengths and settings can be passed to either. Both keep
-//! everything in a store of 32-bit words that the caller lends; docs/LAYOUT.md has its word map. Types and refusals here
-//! are this crate's own: without the feature `proved` nothing of the crate `register` takes part.
+//! [`Independent`] is a second implementation, written from document 01 alone. `Proved` is the proved one: the calls
+//! of the crate `register`, by plain numbers, so that any words, lengths and settings can be passed to either. Both keep
+//! everything in a store of 32-bit words that the caller lends; docs/LAYOUT.md has its word map. Types and refusals
+//! here are this crate's own: without the feature `proved` nothing of the crate `register` takes part.
 //!
 //! ```
 //! use bench::{Calls, Independent, Refusal, Settings};

@@ -1,7 +1,7 @@
 //! Measures the proved register beside its rivals. Prints the tables; writes only where it is told to.
 //!
-//! `cargo run --release` measures everything; `-- write ../docs` also puts the tables into ../docs/BENCHMARKS.md and the
-//! plot into ../docs/benchmarks.svg. `-- count proved sets year 16` makes one kind of call for callgrind, and
+//! `cargo run --release` measures everything; `-- write ../docs` also puts the tables into ../docs/BENCHMARKS.md and
+//! the plot into ../docs/benchmarks.svg. `-- count proved sets year 16` makes one kind of call for callgrind, and
 //! `-- put counted ../docs` puts what it reads from standard input into the page; count.sh uses these two.
 mod count;
 mod draw;

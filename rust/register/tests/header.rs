@@ -1,4 +1,5 @@
-//! What the header, its C file and this crate say alike: names, numbers and words of refusals, limits, lengths, version.
+//! What the header, its C file and this crate say alike: names, numbers and words of refusals, limits, lengths,
+//! version.
 mod compiler;
 use compiler::{DIALECTS, compile, header, include, made, run, said};
 use register::{Entry, OPEN, Refusal, Settings};
