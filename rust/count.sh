@@ -2,15 +2,20 @@
 # Counts executed instructions by callgrind, for the proved and the independent register on the same input: of sets,
 # clears, new readings and look-backs apart; and of all changes, which is the sum of the first three.
 #
-# Collection is on only inside `counted_change` and `counted_look_back` (--toggle-collect), through which src/count.rs
-# makes the calls of one kind, so inputs, start, the calls of other kinds and the program's own start are left out. What
-# these two functions execute around a call is counted once more with a register that does nothing, and taken off both.
-# The counts do not depend on the machine's load: two runs give the same numbers. Prints a Markdown table and puts it
-# into docs/BENCHMARKS.md.
+# Collection is on only inside `counted_change` and `counted_look_back` (--toggle-collect), through which
+# bench/src/count.rs makes the calls of one kind, so inputs, start, the calls of other kinds and the program's own start
+# are left out. What these two functions execute around a call is counted once more with a register that does nothing,
+# and taken off both. The counts do not depend on the machine's load: two runs give the same numbers. Prints a Markdown
+# table; with a folder as argument, `./count.sh ../docs`, it is also put into that folder's BENCHMARKS.md.
 set -eu
+case $# in
+    0) docs= ;;
+    1) docs=$(cd "$1" && pwd) ;;
+    *) echo 'usage: count.sh [FOLDER]' >&2; exit 2 ;;
+esac
 cd "$(dirname "$0")"
 cargo build --release --offline --quiet
-program=target/release/register
+program=target/release/bench
 folder=$(mktemp -d)
 trap 'rm -rf "$folder"' EXIT
 
@@ -56,4 +61,4 @@ table() {
 counts >"$folder/counts"
 table >"$folder/table"
 cat "$folder/table"
-"$program" put counted <"$folder/table"
+[ -z "$docs" ] || "$program" put counted "$docs" <"$folder/table"
