@@ -57,7 +57,8 @@ class Canvas:
 
     def svg(self):
         size = f'width="{WIDTH}" height="{self.y:.0f}"'
-        head = f'<svg xmlns="http://www.w3.org/2000/svg" {size} viewBox="0 0 {WIDTH} {self.y:.0f}" font-family="{FONT}">'
+        box = f'viewBox="0 0 {WIDTH} {self.y:.0f}"'
+        head = f'<svg xmlns="http://www.w3.org/2000/svg" {size} {box} font-family="{FONT}">'
         arrow = ('<defs><marker id="a" viewBox="0 0 8 8" refX="7" refY="4" markerWidth="7" markerHeight="7" '
                  'orient="auto"><path d="M0,0 L8,4 L0,8 z" fill="#8a5200"/></marker></defs>')
         return '\n'.join([head, arrow, f'<rect {size} fill="#ffffff"/>', *self.items, *self.over, '</svg>\n'])

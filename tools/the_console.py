@@ -1,5 +1,5 @@
-"""Runs the proved console (target/bin/console, or the program that CONSOLE names) for the tools beside it, and says what
-its lines mean."""
+"""Runs the proved console (target/bin/console, or the program that CONSOLE names) for the tools beside it, and says
+what its lines mean."""
 import os
 import subprocess
 import sys
@@ -10,7 +10,7 @@ TOP = os.path.dirname(os.path.dirname(os.path.abspath(__file__)))
 
 
 def console(data):
-    """What the console prints for these bytes, as lines without the first, the names line."""
+    """What the console prints for these bytes; and its lines, without the first, the names line."""
     program = os.environ.get('CONSOLE') or f'{TOP}/target/bin/console'
     if not os.path.exists(program):
         sys.exit(f'{program} is not there: run `rt check console` in {TOP} first')
