@@ -31,6 +31,22 @@ def layout_words(b, blocks, tags):
     return 16 + 4096 + 256 + 16 + tags + blocks * (8 + 4 * b)
 
 
+# ---- sizes, from the proved limits (README.md, "How much it holds")
+def sets_held(b, q, blocks):
+    """So many sets and new readings, at least, are accepted before a change finds no block left."""
+    return blocks * (b - q + 1) - (q - 1)
+
+
+def blocks_for(b, q, sets):
+    """So many blocks hold these sets and new readings for certain."""
+    return -(-(sets + q - 1) // (b - q + 1))
+
+
+def blocks_read(q, rows):
+    """So many blocks, at most, are read by a look-back that finds these rows."""
+    return 2 * ((rows + q) // q)
+
+
 class Record:
     """A condition in a slot, from one second to another; `source` is the block and slot that a copy came from."""
 
