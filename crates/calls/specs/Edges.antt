@@ -1,0 +1,24 @@
+-- THE EDGES OF THE REFUSALS (document 01, "When a call is turned away"): for each refusal of each call, and each clause of 3, 11 and 12, an example where
+-- it is the first that applies, and beside it, one word or one argument off, one where it is not. One statement about the definitions, like the table.
+use Rattle.calls.specs.EdgesHead.{StartEdges, HeadEdges}
+use Rattle.calls.specs.EdgesChange.{TagEdges, PlaceEdges, TagBlockEdges, AcceptorEdges, RoomEdges}
+use Rattle.calls.specs.EdgesLookBack.{AskEdges, WalkEdges, PageEdges}
+
+pub record Edges : Type 0 where
+  -- 1, 2 and 4 of a start
+  pub start : StartEdges
+  -- 2, 3 and 4 of every other call
+  pub head : HeadEdges
+  -- of a change or clock move: 5, 6, 8, 9, 10
+  pub tag : TagEdges
+  -- 12: the tag's place, the tag's block that will close, the acceptor that will close
+  pub place : PlaceEdges
+  pub tag-block : TagBlockEdges
+  pub acceptor : AcceptorEdges
+  -- 13
+  pub room : RoomEdges
+  -- of a look-back: 5, 7, 11
+  pub ask : AskEdges
+  -- 12: path and visits, and the pages of the index
+  pub walk : WalkEdges
+  pub page : PageEdges
