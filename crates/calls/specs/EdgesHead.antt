@@ -8,7 +8,7 @@ use Rattle.layout.specs.declared.address.Address.the-variants.{Head}
 use Rattle.layout.specs.Sizes.{OPEN}
 use Rattle.layout.specs.Fields.{headMark, headBlock, headUseful, headBlocks, headTags, headOpened, headClock, headFill, headSpare}
 use Rattle.layout.specs.Settings.{settingsOf}
-use Rattle.calls.specs.Calls.{Start, Set, Clear, Update, Advance}
+use Rattle.calls.specs.Calls.{Start, Advance}
 use Rattle.calls.specs.EdgesStores.{Refuses, Passes, AllRefuse, _▹_, _≔_, settings, headOnly, three}
 
 -- ---- a start
@@ -58,11 +58,11 @@ pub record HeadEdges : Type 0 where
   pub b-2 : AllRefuse 4 (headOnly ▹ Head headUseful ≔ 1 ▹ Head headBlock ≔ 2)
   pub b-64 : AllRefuse 4 (headOnly ▹ Head headBlock ≔ 64)
   pub b-65 : AllRefuse 3 (headOnly ▹ Head headBlock ≔ 65)
-  -- q
+  -- q, which is 2 in this head
   pub q-0 : AllRefuse 3 (headOnly ▹ Head headUseful ≔ 0)
   pub q-1 : AllRefuse 4 (headOnly ▹ Head headUseful ≔ 1)
-  pub q-half : AllRefuse 4 (headOnly ▹ Head headUseful ≔ 2)
-  pub q-above-half : AllRefuse 3 (headOnly ▹ Head headUseful ≔ 3)
+  pub q-half : AllRefuse 4 (headOnly ▹ Head headBlock ≔ 4)
+  pub q-above-half : AllRefuse 3 (headOnly ▹ Head headBlock ≔ 3)
   -- B
   pub blocks-0 : AllRefuse 3 (headOnly ▹ Head headBlocks ≔ 0)
   pub blocks-1 : AllRefuse 4 (headOnly ▹ Head headBlocks ≔ 1)
@@ -73,9 +73,9 @@ pub record HeadEdges : Type 0 where
   pub tags-1 : AllRefuse 4 (headOnly ▹ Head headTags ≔ 1)
   pub tags-4096 : AllRefuse 4 (headOnly ▹ Head headTags ≔ 4096)
   pub tags-4097 : AllRefuse 3 (headOnly ▹ Head headTags ≔ 4097)
-  -- "N above B" (B = 4)
-  pub opened-all : AllRefuse 4 (headOnly ▹ Head headFill ≔ 1 ▹ Head headOpened ≔ 4)
-  pub opened-above : AllRefuse 3 (headOnly ▹ Head headFill ≔ 1 ▹ Head headOpened ≔ 5)
+  -- "N above B", which is 7
+  pub opened-all : AllRefuse 4 (headOnly ▹ Head headFill ≔ 1 ▹ Head headOpened ≔ 7)
+  pub opened-above : AllRefuse 3 (headOnly ▹ Head headFill ≔ 1 ▹ Head headOpened ≔ 8)
   -- "clock OPEN"
   pub clock-last : AllRefuse 4 (headOnly ▹ Head headClock ≔ OPEN - 1)
   pub clock-open : AllRefuse 3 (headOnly ▹ Head headClock ≔ OPEN)
@@ -86,13 +86,13 @@ pub record HeadEdges : Type 0 where
   pub spare-4 : AllRefuse 3 (headOnly ▹ Head (headSpare + 3) ≔ 1)
   pub spare-5 : AllRefuse 3 (headOnly ▹ Head (headSpare + 4) ≔ 1)
   pub spare-6 : AllRefuse 3 (headOnly ▹ Head (headSpare + 5) ≔ 1)
-  -- "a fill not 1 to b" (b = 4)
+  -- "a fill not 1 to b", which is 5
   pub fill-0 : AllRefuse 3 (headOnly ▹ Head headOpened ≔ 1 ▹ Head headFill ≔ 0)
   pub fill-1 : AllRefuse 4 (headOnly ▹ Head headOpened ≔ 1 ▹ Head headFill ≔ 1)
-  pub fill-4 : AllRefuse 4 (headOnly ▹ Head headOpened ≔ 1 ▹ Head headFill ≔ 4)
-  pub fill-5 : AllRefuse 3 (headOnly ▹ Head headOpened ≔ 1 ▹ Head headFill ≔ 5)
+  pub fill-5 : AllRefuse 4 (headOnly ▹ Head headOpened ≔ 1 ▹ Head headFill ≔ 5)
+  pub fill-6 : AllRefuse 3 (headOnly ▹ Head headOpened ≔ 1 ▹ Head headFill ≔ 6)
   -- "(not 0, for N = 0)"
   pub fill-none : AllRefuse 3 (headOnly ▹ Head headFill ≔ 1)
-  -- 4: "The store is shorter than its layout", of 4,486 words
-  pub short : AllRefuse 4 (take 4485 three)
-  pub long : Passes (take 4486 three) (Advance 3)
+  -- 4: "The store is shorter than its layout", of 4,586 words
+  pub short : AllRefuse 4 (take 4585 three)
+  pub long : Passes (take 4586 three) (Advance 9)

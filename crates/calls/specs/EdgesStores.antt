@@ -8,8 +8,8 @@ use lib.ListN.{length, replicate}
 use Rattle.layout.specs.declared.settings.Settings.{Settings}
 use Rattle.layout.specs.declared.head.Cursor.{Cursor}
 use Rattle.layout.specs.declared.address.Address.{Address}
-use Rattle.layout.specs.declared.address.Address.the-variants.{Head, Dir, Bits}
-use Rattle.layout.specs.Sizes.{OPEN, levelLen}
+use Rattle.layout.specs.declared.address.Address.the-variants.{Head}
+use Rattle.layout.specs.Sizes.{OPEN, headLen, levelLen}
 use Rattle.layout.specs.Fields.{headBlocks, headFill}
 use Rattle.layout.specs.Settings.{settingsOf}
 use Rattle.layout.specs.Head.{headOf, headWords}
@@ -57,72 +57,81 @@ storeOf s c times directory blocks =
 abbrev pub cursorOf : ℕ → ℕ → ℕ → ℕ → ℕ → Cursor
 cursorOf opened clock fill child right = record { opened = opened; clock = clock; fill = fill; child = child; right = right }
 
--- ---- the stores
--- b = 4, q = 2, B = 4, D = 6: the head alone as a start leaves it, and with all words of its layout, 4,486
+-- ---- the stores; their settings, N, fill and clock are unlike one another, so that one taken for another shows
+-- b = 5, q = 2, B = 7, D = 6: the head alone as a start leaves it, and with all 4,586 words of its layout
 abbrev pub settings : Settings
-settings = settingsOf 4 2 4 6
+settings = settingsOf 5 2 7 6
 
 unfoldable pub headOnly : List ℕ
 headOnly = headWords (freshHead settings)
 
 unfoldable pub fresh : List ℕ
-fresh = headWords (freshHead settings) ++ replicate 4470 0
+fresh = headWords (freshHead settings) ++ replicate 4570 0
 
--- Three open blocks in a row, the clock at 3. Tags 4 and 5 stand in block 1, tags 0 and 1 in slots 0 and 2 of block 2, tag 2 in slot 2 of block 3,
--- the acceptor, which has three records; tag 3 does not stand. Each block: opened, closed, up, left, last child, right, standing bits low and high;
--- then its records: tag, reading, from, to.
+-- Three open blocks in a row, the clock at 9. Tags 4 and 5 stand in slots 0 and 1 of block 1, tags 0 and 1 in slots 0 and 2 of block 2; tag 2 stands
+-- in slot 3 of block 3, the acceptor, and is its last record; tag 3 does not stand. A block: opened, closed, up, left, last child, right,
+-- standing bits low and high; then its records: tag, reading, from, to.
 unfoldable pub three : List ℕ
-three = storeOf settings (cursorOf 3 3 3 0 1) (1 ∷ 2 ∷ 3 ∷ []) (5 ∷ 7 ∷ 11 ∷ 0 ∷ 1 ∷ 2 ∷ [])
+three = storeOf settings (cursorOf 3 9 4 0 1) (1 ∷ 2 ∷ 3 ∷ []) (6 ∷ 8 ∷ 14 ∷ 0 ∷ 1 ∷ 2 ∷ [])
     (1 ∷ OPEN ∷ 0 ∷ 0 ∷ 0 ∷ 2 ∷ 3 ∷ 0
     ∷ 4 ∷ 10 ∷ 1 ∷ OPEN
     ∷ 5 ∷ 11 ∷ 1 ∷ OPEN
     ∷ 0 ∷ 12 ∷ 1 ∷ 2
     ∷ 1 ∷ 13 ∷ 1 ∷ 2
+    ∷ 3 ∷ 14 ∷ 1 ∷ 2
     ∷ 2 ∷ OPEN ∷ 1 ∷ 0 ∷ 0 ∷ 3 ∷ 5 ∷ 0
-    ∷ 0 ∷ 14 ∷ 2 ∷ OPEN
-    ∷ 2 ∷ 15 ∷ 2 ∷ 3
-    ∷ 1 ∷ 16 ∷ 2 ∷ OPEN
-    ∷ 3 ∷ 17 ∷ 2 ∷ 3
-    ∷ 3 ∷ OPEN ∷ 2 ∷ 0 ∷ 0 ∷ 0 ∷ 4 ∷ 0
-    ∷ 3 ∷ 18 ∷ 3 ∷ 3
-    ∷ 3 ∷ 19 ∷ 3 ∷ 3
-    ∷ 2 ∷ 20 ∷ 3 ∷ OPEN
-    ∷ replicate 28 0)
+    ∷ 0 ∷ 15 ∷ 2 ∷ OPEN
+    ∷ 2 ∷ 16 ∷ 2 ∷ 3
+    ∷ 1 ∷ 17 ∷ 2 ∷ OPEN
+    ∷ 3 ∷ 18 ∷ 2 ∷ 2
+    ∷ 3 ∷ 19 ∷ 2 ∷ 3
+    ∷ 3 ∷ OPEN ∷ 2 ∷ 0 ∷ 0 ∷ 0 ∷ 8 ∷ 0
+    ∷ 3 ∷ 20 ∷ 3 ∷ 4
+    ∷ 3 ∷ 21 ∷ 4 ∷ 5
+    ∷ 3 ∷ 22 ∷ 5 ∷ 6
+    ∷ 2 ∷ 23 ∷ 9 ∷ OPEN
+    ∷ replicate 116 0)
 
--- the same with a full acceptor, whose fourth record has ended; and the same with no further block (N = B)
+-- the same with a full acceptor, whose fifth record has ended; and so with no further block (N = B)
 abbrev pub brim : List ℕ
-brim = three ▹ Head headFill ≔ 4
+brim = three ▹ Head headFill ≔ 5
 
 abbrev pub out : List ℕ
 out = brim ▹ Head headBlocks ≔ 3
 
 -- b = 64, q = 1, B = D = 1: 33 records in block 1, of which the last, in slot 32, stands for tag 0
 unfoldable pub wide : List ℕ
-wide = storeOf (settingsOf 64 1 1 1) (cursorOf 1 1 33 0 1) (1 ∷ []) (33 ∷ []) (1 ∷ OPEN ∷ 0 ∷ 0 ∷ 0 ∷ 0 ∷ 0 ∷ 1 ∷ replicate 256 0)
+wide = storeOf (settingsOf 64 1 1 1) (cursorOf 1 1 33 0 1) (1 ∷ []) (33 ∷ [])
+    (1 ∷ OPEN ∷ 0 ∷ 0 ∷ 0 ∷ 0 ∷ 0 ∷ 1 ∷ replicate 256 0)
 
--- b = 2, q = 1, B = D = 6, the clock at 9. Blocks 2 and 6 are open; 1, 3, 4 and 5 closed at 9. At 8 the path is 6, 2: between them lies 4, with
--- last child 5 and left 3; block 0's last child is 1. In slot 0 of each block a record stands at 8, six in all.
+-- b = 6, q = 3, B = 3, D = 4, the clock at 9. Tags 0, 1 and 2 stand in block 1; block 2, the acceptor, has four records, of which that in slot 2
+-- stands, for tag 3.
+unfoldable pub six : List ℕ
+six = storeOf (settingsOf 6 3 3 4) (cursorOf 2 9 4 0 1) (1 ∷ 2 ∷ []) (1 ∷ 2 ∷ 3 ∷ 9 ∷ [])
+    (1 ∷ OPEN ∷ 0 ∷ 0 ∷ 0 ∷ 2 ∷ 7 ∷ 0
+    ∷ 0 ∷ 10 ∷ 1 ∷ OPEN
+    ∷ 1 ∷ 11 ∷ 1 ∷ OPEN
+    ∷ 2 ∷ 12 ∷ 1 ∷ OPEN
+    ∷ 3 ∷ 13 ∷ 1 ∷ 1
+    ∷ 3 ∷ 14 ∷ 1 ∷ 1
+    ∷ 3 ∷ 15 ∷ 1 ∷ 2
+    ∷ 2 ∷ OPEN ∷ 1 ∷ 0 ∷ 0 ∷ 0 ∷ 4 ∷ 0
+    ∷ 3 ∷ 16 ∷ 2 ∷ 3
+    ∷ 3 ∷ 17 ∷ 3 ∷ 4
+    ∷ 3 ∷ 18 ∷ 4 ∷ OPEN
+    ∷ replicate 44 0)
+
+-- b = 2, q = 1, B = 8, D = 3, the clock at 9. Blocks 2 and 6 are open; 1, 3, 4 and 5 closed at 9. At 8 the path is 6, 2: between them lies 4, with
+-- last child 5 and left 3; block 0's last child is 1. No record stands.
 unfoldable pub tree : List ℕ
-tree = storeOf (settingsOf 2 1 6 6) (cursorOf 6 9 1 1 2) (1 ∷ 2 ∷ 3 ∷ 4 ∷ 5 ∷ 6 ∷ []) (0 ∷ 3 ∷ 0 ∷ 0 ∷ 0 ∷ 11 ∷ [])
-    (1 ∷ 9 ∷ 0 ∷ 0 ∷ 0 ∷ 2 ∷ 0 ∷ 0
-    ∷ 0 ∷ 10 ∷ 1 ∷ 9
-    ∷ 0 ∷ 0 ∷ 0 ∷ 0
-    ∷ 2 ∷ OPEN ∷ 0 ∷ 0 ∷ 4 ∷ 6 ∷ 1 ∷ 0
-    ∷ 1 ∷ 11 ∷ 2 ∷ OPEN
-    ∷ 0 ∷ 0 ∷ 0 ∷ 0
-    ∷ 3 ∷ 9 ∷ 2 ∷ 0 ∷ 0 ∷ 4 ∷ 0 ∷ 0
-    ∷ 2 ∷ 12 ∷ 3 ∷ 9
-    ∷ 0 ∷ 0 ∷ 0 ∷ 0
-    ∷ 4 ∷ 9 ∷ 2 ∷ 3 ∷ 5 ∷ 6 ∷ 0 ∷ 0
-    ∷ 3 ∷ 13 ∷ 4 ∷ 9
-    ∷ 0 ∷ 0 ∷ 0 ∷ 0
-    ∷ 5 ∷ 9 ∷ 4 ∷ 0 ∷ 0 ∷ 6 ∷ 0 ∷ 0
-    ∷ 4 ∷ 14 ∷ 5 ∷ 9
-    ∷ 0 ∷ 0 ∷ 0 ∷ 0
-    ∷ 6 ∷ OPEN ∷ 2 ∷ 0 ∷ 0 ∷ 0 ∷ 1 ∷ 0
-    ∷ 5 ∷ 15 ∷ 6 ∷ OPEN
-    ∷ 0 ∷ 0 ∷ 0 ∷ 0 ∷ [])
+tree = storeOf (settingsOf 2 1 8 3) (cursorOf 6 9 1 1 2) (1 ∷ 2 ∷ 3 ∷ 4 ∷ 5 ∷ 6 ∷ []) (0 ∷ 0 ∷ 0 ∷ [])
+    ((1 ∷ 9 ∷ 0 ∷ 0 ∷ 0 ∷ 2 ∷ replicate 10 0)
+    ++ (2 ∷ OPEN ∷ 0 ∷ 0 ∷ 4 ∷ 6 ∷ replicate 10 0)
+    ++ (3 ∷ 9 ∷ 2 ∷ 0 ∷ 0 ∷ 4 ∷ replicate 10 0)
+    ++ (4 ∷ 9 ∷ 2 ∷ 3 ∷ 5 ∷ 6 ∷ replicate 10 0)
+    ++ (5 ∷ 9 ∷ 4 ∷ 0 ∷ 0 ∷ 6 ∷ replicate 10 0)
+    ++ (6 ∷ OPEN ∷ 2 ∷ 0 ∷ 0 ∷ 0 ∷ replicate 42 0))
 
--- n blocks, all opened at 0 and closed, the clock at 9; b = 2, q = 1, B = n, D = 1
+-- b = 2, q = 1, B = N = n, D = 1, the clock at 9, all words behind the head 0: n blocks that were opened and closed at 0
 unfoldable pub many : ℕ → ℕ → List ℕ
-many n blockWords = headWords (record { settings = settingsOf 2 1 n 1; cursor = cursorOf n 9 1 0 1 }) ++ replicate blockWords 0
+many n words = headWords (record { settings = settingsOf 2 1 n 1; cursor = cursorOf n 9 1 0 1 }) ++ replicate (words - headLen) 0

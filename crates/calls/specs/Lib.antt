@@ -14,5 +14,6 @@ pub mod EdgesHead
 pub mod EdgesChange
 pub mod EdgesLookBack
 pub mod Edges
+pub mod EdgesHeadProof
 pub mod EdgesProof
 pub mod Claims
