@@ -1,5 +1,6 @@
--- THE EDGES OF THE REFUSALS (document 01, "When a call is turned away"): for each refusal of each call, and each clause of 3, 11 and 12, an example where
--- it is the first that applies, and beside it, one word or one argument off, one where it is not. One statement about the definitions, like the table.
+-- THE EDGES OF THE REFUSALS (document 01, "When a call is turned away"), as one statement about the definitions: of
+-- each refusal of each call, and of each clause of 3, 11 and 12, an example where it is the first that applies, and
+-- beside it, one word or one argument off, an example where it is not.
 use Rattle.calls.specs.EdgesHead.{StartEdges, HeadEdges}
 use Rattle.calls.specs.EdgesChange.{TagEdges, PlaceEdges, TagBlockEdges, AcceptorEdges, RoomEdges}
 use Rattle.calls.specs.EdgesLookBack.{AskEdges, WalkEdges, PageEdges}

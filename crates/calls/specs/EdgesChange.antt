@@ -68,7 +68,8 @@ pub record PlaceEdges : Type 0 where
   pub high-bit : BothPass wide 0
   pub low-bit : BothRefuse 12 (wide ▹ Bits 1 1 ≔ 0 ▹ Bits 1 0 ≔ 1) 0
 
--- ---- 12: the tag's block will close. Tags 0 and 1 stand in slots 0 and 2 of block 2, so that one remains, fewer than q. N is 3, B is 7.
+-- ---- 12: the tag's block will close. Tags 0 and 1 stand in slots 0 and 2 of block 2: one remains, fewer than q. N is 3
+-- and B is 7.
 pub record TagBlockEdges : Type 0 where
   pub sound : BothPass three 0
   -- "an up not below it"
@@ -98,8 +99,8 @@ pub record TagBlockEdges : Type 0 where
   -- nor the acceptor, which a clear does not judge: tag 2 stands there alone
   pub acceptor-stays : BothPass (three ▹ Field 3 upWord ≔ 3) 2
 
--- ---- 12: the acceptor will close. In `brim` it is full and tag 2 alone stands in it; a block opens for the record of a set, for the copy of tag 1
--- that a clear of tag 0 makes, and for that copy and the record of a new reading of tag 0.
+-- ---- 12: the acceptor will close. In `brim` it is full and tag 2 alone stands in it. A block opens for a set's record,
+-- for the copy of tag 1 that a clear of tag 0 makes, and for that copy with the record of a new reading.
 abbrev pub EachRefuses : ℕ → List ℕ → Type 0
 EachRefuses n ws = Refuses n ws (Set 9 3 70) × Refuses n ws (Clear 9 0) × Refuses n ws (Update 9 0 70)
 
@@ -129,7 +130,7 @@ pub record AcceptorEdges : Type 0 where
   pub no-copy : Passes (brim ▹ Bits 2 0 ≔ 7 ▹ Field 3 upWord ≔ 3) (Clear 9 0)
   pub none-left : Passes (brim ▹ Bits 2 0 ≔ 1 ▹ Field 3 upWord ≔ 3) (Clear 9 0)
   pub own-clear : Passes (brim ▹ Field 3 upWord ≔ 3) (Clear 9 2)
-  -- its free slots are taken before it is judged, and stand then: here slot 4, by the copy, before the new reading opens a block
+  -- its free slots are taken before it is judged, and stand then: here slot 4, by the copy
   pub taken : Passes (three ▹ Field 3 upWord ≔ 3) (Update 9 0 70)
   pub taken-alone : Refuses 12 (three ▹ Bits 3 0 ≔ 0 ▹ Field 3 upWord ≔ 3) (Update 9 0 70)
   pub taken-once : Refuses 12 (three ▹ Bits 3 0 ≔ 16 ▹ Field 3 upWord ≔ 3) (Update 9 0 70)

@@ -1,4 +1,5 @@
--- The edges of refusals 1 to 4 hold. One computation of the tests that every call but a start begins with serves all these calls.
+-- The edges of refusals 1 to 4 hold. The tests that every call but a start begins with are computed once for all
+-- calls.
 use mathlib.Core.Path.{_≡_, refl, sym}
 use mathlib.Core.Bool.{Bool, true, false, cond}
 use mathlib.Core.List.{List, [], _∷_, _++_}
@@ -23,31 +24,34 @@ kept : (l m : List Test) (n : ℕ) → refusal l ≡ n → eqb n 0 ≡ false →
 kept [] m n e d = absurd (eqb-false n 0 d (sym e))
 kept (t ∷ l) m n e d = go (t .applies) (λ f. kept l m n f d) e
   where
-    go : (b : Bool) → (refusal l ≡ n → refusal (l ++ m) ≡ n) → cond b (t .number) (refusal l) ≡ n → cond b (t .number) (refusal (l ++ m)) ≡ n
+    go : (b : Bool) → (refusal l ≡ n → refusal (l ++ m) ≡ n) → cond b (t .number) (refusal l) ≡ n
+        → cond b (t .number) (refusal (l ++ m)) ≡ n
     go true k f = f
     go false k f = k f
 
--- a call whose first refusal is n, not 0 and not 12, answers it
-answers : (ws : List ℕ) (c : Call) (n : ℕ) → Change c → refusal (testsOf ws c) ≡ n → eqb n 0 ≡ false → eqb n 12 ≡ false → Refuses n ws c
-unfolding set clear update advance lookBack
-answers ws (Start s) n h e d d′ = absurd h
-answers ws (Set s tag reading) n h e d d′ = rw (e, d)
-answers ws (Clear s tag) n h e d d′ = rw (e, d)
-answers ws (Update s tag reading) n h e d d′ = rw (e, d)
-answers ws (Advance s) n h e d d′ = rw (e, d)
-answers ws (Ask (LookBack t rows list)) n h e d d′ = rw (e, d, d′)
+module _ (ws : List ℕ) (n : ℕ) (some : eqb n 0 ≡ false) where
+  -- the tests that every call but a start begins with
+  begins : (c : Call) → Change c → refusal (storeTests ws []) ≡ n → refusal (testsOf ws c) ≡ n
+  begins (Start s) h e = absurd h
+  begins (Set s tag reading) h e = kept (storeTests ws []) (drop 3 (testsOf ws (Set s tag reading))) n e some
+  begins (Clear s tag) h e = kept (storeTests ws []) (drop 3 (testsOf ws (Clear s tag))) n e some
+  begins (Update s tag reading) h e = kept (storeTests ws []) (drop 3 (testsOf ws (Update s tag reading))) n e some
+  begins (Advance s) h e = kept (storeTests ws []) (drop 3 (testsOf ws (Advance s))) n e some
+  begins (Ask (LookBack t rows list)) h e =
+      kept (storeTests ws []) (drop 3 (testsOf ws (Ask (LookBack t rows list)))) n e some
 
--- the tests that every call but a start begins with
-begins : (ws : List ℕ) (c : Call) (n : ℕ) → Change c → refusal (storeTests ws []) ≡ n → eqb n 0 ≡ false → refusal (testsOf ws c) ≡ n
-begins ws (Start s) n h e d = absurd h
-begins ws (Set s tag reading) n h e d = kept (storeTests ws []) (drop 3 (testsOf ws (Set s tag reading))) n e d
-begins ws (Clear s tag) n h e d = kept (storeTests ws []) (drop 3 (testsOf ws (Clear s tag))) n e d
-begins ws (Update s tag reading) n h e d = kept (storeTests ws []) (drop 3 (testsOf ws (Update s tag reading))) n e d
-begins ws (Advance s) n h e d = kept (storeTests ws []) (drop 3 (testsOf ws (Advance s))) n e d
-begins ws (Ask (LookBack t rows list)) n h e d = kept (storeTests ws []) (drop 3 (testsOf ws (Ask (LookBack t rows list)))) n e d
+  -- a call whose first refusal is n, but not 12, answers it
+  answers : (c : Call) → Change c → eqb n 12 ≡ false → refusal (testsOf ws c) ≡ n → Refuses n ws c
+  unfolding set clear update advance lookBack
+  answers (Start s) h d e = absurd h
+  answers (Set s tag reading) h d e = rw (e, some)
+  answers (Clear s tag) h d e = rw (e, some)
+  answers (Update s tag reading) h d e = rw (e, some)
+  answers (Advance s) h d e = rw (e, some)
+  answers (Ask (LookBack t rows list)) h d e = rw (e, some, d)
 
 every : {n : ℕ} {ws : List ℕ} → refusal (storeTests ws []) ≡ n → eqb n 0 ≡ false → eqb n 12 ≡ false → AllRefuse n ws
-every {n} {ws} e d d′ = record { given = λ c h. answers ws c n h (begins ws c n h e d) d d′ }
+every {n} {ws} e some d = record { given = λ c h. answers ws n some c h d (begins ws n some c h e) }
 
 pub start-edges : StartEdges
 unfolding blockLen layoutLen inLimits start

@@ -1,4 +1,4 @@
--- THE EDGES OF A LOOK-BACK'S REFUSALS 5 TO 12 (document 01, "When a call is turned away"), most of them at 8 on the store `tree`.
+-- THE EDGES OF A LOOK-BACK'S REFUSALS 5 TO 12 (document 01, "When a call is turned away"), most of them on `tree`.
 use mathlib.Core.Path.{_≡_}
 use mathlib.Core.List.{List, [], _∷_}
 use Prim.Native.Nat.{ℕ, _-_}
@@ -45,7 +45,7 @@ abbrev pub Unsound : List ℕ → Type 0
 Unsound ws = Zeroes ws 8 6 8
 
 pub record WalkEdges : Type 0 where
-  -- the walk that is damaged below: path 6, 2; from 6 a visit of 4, its last child 5 and its left 3; from 2 a visit of 1
+  -- the walk that is damaged below: path 6, 2; from 6 a visit of 4, its last child 5 and its left 3; from 2 of 1
   pub sound : step tree (asked 8 6 8) .answer ≡ view [] (6 ∷ 4 ∷ 5 ∷ 3 ∷ 2 ∷ 1 ∷ []) onePage 1
   -- "an up not below its block": the first of the path, and the last; not of a block that is only visited
   pub up-6 : Unsound (tree ▹ Field 6 upWord ≔ 6)
@@ -53,8 +53,8 @@ pub record WalkEdges : Type 0 where
   pub last-up-2 : Unsound (tree ▹ Field 2 upWord ≔ 2)
   pub last-up-1 : Sees (tree ▹ Field 2 upWord ≔ 1)
   pub visited-up : Sees (tree ▹ Field 4 upWord ≔ 4)
-  -- "a non-zero left or last child outside the visit's two numbers". From the path "these are the path block's up and the path block":
-  -- of the open block 6 its up's last child, between 2 and 6
+  -- "a non-zero left or last child outside the visit's two numbers". From the path "these are the path block's up and
+  -- the path block": of the open block 6 its up's last child, between 2 and 6
   pub neighbour-0 : Sees (tree ▹ Field 2 childWord ≔ 0)
   pub neighbour-2 : Unsound (tree ▹ Field 2 childWord ≔ 2)
   pub neighbour-3 : Sees (tree ▹ Field 2 childWord ≔ 3)
@@ -79,7 +79,7 @@ pub record WalkEdges : Type 0 where
   pub visited-left-2 : Unsound (tree ▹ Field 4 leftWord ≔ 2)
   pub visited-left-3 : Sees (tree ▹ Field 4 leftWord ≔ 3)
   pub visited-left-4 : Unsound (tree ▹ Field 4 leftWord ≔ 4)
-  -- "that gap shrinks at each visit": of the last child 5 the left lies above 4, of the left 3 the last child lies below 4
+  -- "that gap shrinks at each visit": of the last child 5 the left lies above 4, of the left 3 the last child below 4
   pub deep-left-3 : Unsound (tree ▹ Field 5 leftWord ≔ 3)
   pub deep-left-4 : Unsound (tree ▹ Field 5 leftWord ≔ 4)
   pub deep-child-4 : Unsound (tree ▹ Field 3 childWord ≔ 4)
@@ -91,9 +91,9 @@ pub record WalkEdges : Type 0 where
   pub rows-3 : Sees (tree ▹ Slot 6 0 toWord ≔ 9 ▹ Slot 4 1 toWord ≔ 9 ▹ Slot 1 0 toWord ≔ 9 ▹ Slot 2 0 toWord ≔ 8)
   pub rows-4 : Unsound (tree ▹ Slot 6 0 toWord ≔ 9 ▹ Slot 4 1 toWord ≔ 9 ▹ Slot 1 0 toWord ≔ 9 ▹ Slot 2 0 toWord ≔ 9)
 
--- ---- 12: "a lower page with no entry up to t". With 17 blocks, 4,657 words, the top is the middle level, and block 17 has a page of its own below
--- it. With 257, 8,497 words, the top is the highest level, and block 257 has a page of its own on both levels below. Where its entry is 5, a
--- look-back at 5 passes, and one at 4 finds none.
+-- ---- 12: "a lower page with no entry up to t". With 17 blocks, 4,657 words, the top is the middle level, and block
+-- 17 has a page of its own below it. With 257, 8,497 words, the top is the highest level, and block 257 has a page of
+-- its own on both levels below. Where its entry is 5, a look-back at 5 passes, and one at 4 finds none.
 pub record PageEdges : Type 0 where
   pub page-at : Passes (many 17 4657 ▹ Time 0 16 ≔ 5) (asked 5 2 17)
   pub page-before : Zeroes (many 17 4657 ▹ Time 0 16 ≔ 5) 4 2 17

@@ -1,4 +1,5 @@
--- The edges hold: each is computed on the words. A change is accepted or refused by its tests alone, so that its program is not run.
+-- The edges hold: each is computed on the words. A change is accepted or refused by its tests alone; its program is
+-- not run.
 use mathlib.Core.Path.{refl}
 use Rattle.base.specs.Bits.{bitAt, withBit, withoutBit}
 use Rattle.base.specs.Places.{bitsFrom}

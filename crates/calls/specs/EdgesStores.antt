@@ -1,5 +1,6 @@
--- THE STORES OF THE EDGES, word by word, and how an edge is written: a store, the words changed in it by their names, the call, what it gives.
--- Some of these words no history leaves ("these rules act on the words, also on words that no history left").
+-- THE STORES OF THE EDGES, word by word, and how an edge is written: a store, the words changed in it by their names,
+-- the call, what it gives. Some of these words no history leaves ("these rules act on the words, also on words that no
+-- history left").
 use mathlib.Core.Path.{_≡_}
 use mathlib.Core.Bool.{true}
 use mathlib.Core.List.{List, [], _∷_, _++_}
@@ -48,16 +49,19 @@ _▹_ ws c = writeWord (headOf ws .settings) ws (c .address) (c .value)
 abbrev pub level : ℕ → List ℕ → List ℕ
 level l times = times ++ replicate (levelLen l - length times) 0
 
--- head; opening times of blocks 1, 2, .. (16 at most) on the lowest level, the first of them on both others; directory; blocks
+-- head; on the lowest level the opening times of blocks 1, 2, .. (up to 16), on both others the first, 1; directory;
+-- blocks
 abbrev pub storeOf : Settings → Cursor → List ℕ → List ℕ → List ℕ → List ℕ
 storeOf s c times directory blocks =
-    headWords (record { settings = s; cursor = c }) ++ (level 0 times ++ (level 1 (1 ∷ []) ++ (level 2 (1 ∷ []) ++ (directory ++ blocks))))
+    headWords (record { settings = s; cursor = c })
+    ++ (level 0 times ++ (level 1 (1 ∷ []) ++ (level 2 (1 ∷ []) ++ (directory ++ blocks))))
 
 -- N, clock, fill, last child and right of block 0
 abbrev pub cursorOf : ℕ → ℕ → ℕ → ℕ → ℕ → Cursor
 cursorOf opened clock fill child right = record { opened = opened; clock = clock; fill = fill; child = child; right = right }
 
--- ---- the stores; their settings, N, fill and clock are unlike one another, so that one taken for another shows
+-- ---- the stores, their settings, N, fill and clock unlike one another as far as can be
+
 -- b = 5, q = 2, B = 7, D = 6: the head alone as a start leaves it, and with all 4,586 words of its layout
 abbrev pub settings : Settings
 settings = settingsOf 5 2 7 6
@@ -68,9 +72,10 @@ headOnly = headWords (freshHead settings)
 unfoldable pub fresh : List ℕ
 fresh = headWords (freshHead settings) ++ replicate 4570 0
 
--- Three open blocks in a row, the clock at 9. Tags 4 and 5 stand in slots 0 and 1 of block 1, tags 0 and 1 in slots 0 and 2 of block 2; tag 2 stands
--- in slot 3 of block 3, the acceptor, and is its last record; tag 3 does not stand. A block: opened, closed, up, left, last child, right,
--- standing bits low and high; then its records: tag, reading, from, to.
+-- Three open blocks in a row, the clock at 9. Tags 4 and 5 stand in slots 0 and 1 of block 1, tags 0 and 1 in slots 0
+-- and 2 of block 2; tag 2 stands in slot 3 of block 3, the acceptor, and is its last record; tag 3 does not stand. A
+-- block: opened, closed, up, left, last child, right, standing bits low and high; then its records: tag, reading,
+-- from, to.
 unfoldable pub three : List ℕ
 three = storeOf settings (cursorOf 3 9 4 0 1) (1 ∷ 2 ∷ 3 ∷ []) (6 ∷ 8 ∷ 14 ∷ 0 ∷ 1 ∷ 2 ∷ [])
     (1 ∷ OPEN ∷ 0 ∷ 0 ∷ 0 ∷ 2 ∷ 3 ∷ 0
@@ -104,8 +109,8 @@ unfoldable pub wide : List ℕ
 wide = storeOf (settingsOf 64 1 1 1) (cursorOf 1 1 33 0 1) (1 ∷ []) (33 ∷ [])
     (1 ∷ OPEN ∷ 0 ∷ 0 ∷ 0 ∷ 0 ∷ 0 ∷ 1 ∷ replicate 256 0)
 
--- b = 6, q = 3, B = 3, D = 4, the clock at 9. Tags 0, 1 and 2 stand in block 1; block 2, the acceptor, has four records, of which that in slot 2
--- stands, for tag 3.
+-- b = 6, q = 3, B = 3, D = 4, the clock at 9. Tags 0, 1 and 2 stand in block 1; block 2, the acceptor, has four
+-- records, of which that in slot 2 stands, for tag 3.
 unfoldable pub six : List ℕ
 six = storeOf (settingsOf 6 3 3 4) (cursorOf 2 9 4 0 1) (1 ∷ 2 ∷ []) (1 ∷ 2 ∷ 3 ∷ 9 ∷ [])
     (1 ∷ OPEN ∷ 0 ∷ 0 ∷ 0 ∷ 2 ∷ 7 ∷ 0
@@ -121,8 +126,8 @@ six = storeOf (settingsOf 6 3 3 4) (cursorOf 2 9 4 0 1) (1 ∷ 2 ∷ []) (1 ∷ 
     ∷ 3 ∷ 18 ∷ 4 ∷ OPEN
     ∷ replicate 44 0)
 
--- b = 2, q = 1, B = 8, D = 3, the clock at 9. Blocks 2 and 6 are open; 1, 3, 4 and 5 closed at 9. At 8 the path is 6, 2: between them lies 4, with
--- last child 5 and left 3; block 0's last child is 1. No record stands.
+-- b = 2, q = 1, B = 8, D = 3, the clock at 9. Blocks 2 and 6 are open; 1, 3, 4 and 5 closed at 9. At 8 the path is 6,
+-- 2: between them lies 4, with last child 5 and left 3; block 0's last child is 1. No record stands.
 unfoldable pub tree : List ℕ
 tree = storeOf (settingsOf 2 1 8 3) (cursorOf 6 9 1 1 2) (1 ∷ 2 ∷ 3 ∷ 4 ∷ 5 ∷ 6 ∷ []) (0 ∷ 0 ∷ 0 ∷ [])
     ((1 ∷ 9 ∷ 0 ∷ 0 ∷ 0 ∷ 2 ∷ replicate 10 0)
@@ -132,6 +137,8 @@ tree = storeOf (settingsOf 2 1 8 3) (cursorOf 6 9 1 1 2) (1 ∷ 2 ∷ 3 ∷ 4 �
     ++ (5 ∷ 9 ∷ 4 ∷ 0 ∷ 0 ∷ 6 ∷ replicate 10 0)
     ++ (6 ∷ OPEN ∷ 2 ∷ 0 ∷ 0 ∷ 0 ∷ replicate 42 0))
 
--- b = 2, q = 1, B = N = n, D = 1, the clock at 9, all words behind the head 0: n blocks that were opened and closed at 0
+-- b = 2, q = 1, B = N = n, D = 1, the clock at 9, all words behind the head 0: n blocks that were opened and closed at
+-- 0
 unfoldable pub many : ℕ → ℕ → List ℕ
-many n words = headWords (record { settings = settingsOf 2 1 n 1; cursor = cursorOf n 9 1 0 1 }) ++ replicate (words - headLen) 0
+many n words =
+    headWords (record { settings = settingsOf 2 1 n 1; cursor = cursorOf n 9 1 0 1 }) ++ replicate (words - headLen) 0
