@@ -1,11 +1,19 @@
 -- THE EDGES OF THE REFUSALS (document 01, "When a call is turned away"), as one statement about the definitions: of
 -- each refusal of each call, and of each clause of 3, 11 and 12, an example where it is the first that applies, and
 -- beside it, one word or one argument off, an example where it is not.
+use mathlib.Core.Path.{_≡_}
+use lib.ListN.{replicate}
+use Rattle.calls.specs.Calls.{Start}
+use Rattle.calls.specs.Step.{step}
+use Rattle.calls.specs.History.{wordsAfter}
+use Rattle.calls.specs.EdgesStores.{settings, three, toThree}
 use Rattle.calls.specs.EdgesHead.{StartEdges, HeadEdges}
 use Rattle.calls.specs.EdgesChange.{TagEdges, PlaceEdges, TagBlockEdges, AcceptorEdges, RoomEdges}
 use Rattle.calls.specs.EdgesLookBack.{AskEdges, WalkEdges, PageEdges}
 
 pub record Edges : Type 0 where
+  -- the store that the edges of a change set out from is one that a history leaves
+  pub three-left : wordsAfter (step (replicate 4586 9) (Start settings) .store) toThree ≡ three
   -- 1, 2 and 4 of a start
   pub start : StartEdges
   -- 2, 3 and 4 of every other call

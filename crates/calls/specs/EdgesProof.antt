@@ -1,25 +1,35 @@
--- The edges hold: each is computed on the words. A change is accepted or refused by its tests alone; its program is
--- not run.
-use mathlib.Core.Path.{refl}
+-- The edges hold: each is computed on the words. A change is accepted or refused by its tests alone; only the history
+-- that leads to `three` runs programs.
+use mathlib.Core.Path.{_≡_, refl}
+use lib.ListN.{replicate}
 use Rattle.base.specs.Bits.{bitAt, withBit, withoutBit}
 use Rattle.base.specs.Places.{bitsFrom}
 use Rattle.base.specs.Slots.{slotsOf}
 use Rattle.layout.specs.Sizes.{blockLen, layoutLen}
+use Rattle.layout.specs.Program.{each}
 use Rattle.layout.specs.Settings.{inLimits}
-use Rattle.layout.specs.Head.{headOf, headWords, badHead, placed}
+use Rattle.layout.specs.Head.{headOf, headWords, withHead, cleared, badHead, placed}
+use Rattle.layout.specs.Cursor.{storeCursor}
 use Rattle.layout.specs.Standing.{stands, raised, lowered}
 use Rattle.layout.specs.Parts.{blockPart, levelPart, pagePart, blockWord, slotWord}
-use Rattle.layout.specs.Words.{readWord, writeWord}
+use Rattle.layout.specs.Words.{readWord, writeWord, wipeBlock}
 use Rattle.layout.specs.OnWords.{over}
+use Rattle.calls.specs.Calls.{Start}
+use Rattle.calls.specs.Placing.{enterTime, openBlock, unlink, endRecord, standing, putRecord, moveRecord, closeFull, judgeFull, roll, makeRoom, place, replace, close, judge, clearTag, finish, setProgram, clearProgram}
 use Rattle.calls.specs.Walk.{lastUpTo, entries, topLevel, lookUp, descend, search, rowOf, rowsOf, neighbour, visit, path, look}
 use Rattle.calls.specs.Refusals.{badPlace, badBlock, unsoundSet, unsoundClear, blocksOut}
 use Rattle.calls.specs.LookBack.{reader, lookAt, lookBack}
-use Rattle.calls.specs.Step.{set, clear, update, advance}
-use Rattle.calls.specs.EdgesStores.{fresh, three, wide, six, tree, many}
+use Rattle.calls.specs.Step.{step, start, set, clear, update, advance}
+use Rattle.calls.specs.History.{wordsAfter}
+use Rattle.calls.specs.EdgesStores.{settings, fresh, three, toThree, wide, six, tree, many}
 use Rattle.calls.specs.EdgesChange.{TagEdges, PlaceEdges, TagBlockEdges, AcceptorEdges, RoomEdges}
 use Rattle.calls.specs.EdgesLookBack.{AskEdges, WalkEdges, PageEdges}
 use Rattle.calls.specs.Edges.{Edges}
 use Rattle.calls.specs.EdgesHeadProof.{start-edges, head-edges}
+
+three-left : wordsAfter (step (replicate 4586 9) (Start settings) .store) toThree ≡ three
+unfolding three bitAt withBit withoutBit bitsFrom slotsOf blockLen layoutLen each inLimits headOf headWords withHead cleared badHead placed storeCursor stands raised lowered readWord writeWord wipeBlock over enterTime openBlock unlink endRecord standing putRecord moveRecord closeFull judgeFull roll makeRoom place replace close judge clearTag finish setProgram clearProgram badPlace badBlock unsoundSet unsoundClear blocksOut start set clear
+three-left = refl
 
 tag-edges : TagEdges
 unfolding three bitAt withBit withoutBit bitsFrom slotsOf blockLen layoutLen inLimits headOf headWords badHead placed stands raised lowered readWord writeWord over badPlace badBlock unsoundSet unsoundClear blocksOut set clear update advance
@@ -211,6 +221,7 @@ page-edges = record {
 
 pub edges : Edges
 edges = record {
+  three-left = three-left;
   start = start-edges;
   head = head-edges;
   tag = tag-edges;

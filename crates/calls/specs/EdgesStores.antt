@@ -15,7 +15,7 @@ use Rattle.layout.specs.Fields.{headBlocks, headFill}
 use Rattle.layout.specs.Settings.{settingsOf}
 use Rattle.layout.specs.Head.{headOf, headWords}
 use Rattle.layout.specs.Words.{writeWord}
-use Rattle.calls.specs.Calls.{Call, Refused, accepted}
+use Rattle.calls.specs.Calls.{Call, Set, Clear, Refused, accepted}
 use Rattle.calls.specs.Step.{step, freshHead}
 use Rattle.calls.specs.Claims.{Change}
 
@@ -96,6 +96,13 @@ three = storeOf settings (cursorOf 3 9 4 0 1) (1 ∷ 2 ∷ 3 ∷ []) (6 ∷ 8 �
     ∷ 3 ∷ 22 ∷ 5 ∷ 6
     ∷ 2 ∷ 23 ∷ 9 ∷ OPEN
     ∷ replicate 116 0)
+
+-- the calls that leave it, from a fresh register
+abbrev pub toThree : List Call
+toThree =
+    Set 1 4 10 ∷ Set 1 5 11 ∷ Set 1 0 12 ∷ Set 1 1 13 ∷ Set 1 3 14 ∷ Clear 2 0 ∷ Clear 2 1 ∷ Clear 2 3
+    ∷ Set 2 0 15 ∷ Set 2 2 16 ∷ Set 2 1 17 ∷ Set 2 3 18 ∷ Clear 2 3 ∷ Set 2 3 19 ∷ Clear 3 2 ∷ Clear 3 3
+    ∷ Set 3 3 20 ∷ Clear 4 3 ∷ Set 4 3 21 ∷ Clear 5 3 ∷ Set 5 3 22 ∷ Clear 6 3 ∷ Set 9 2 23 ∷ []
 
 -- the same with a full acceptor, whose fifth record has ended; and so with no further block (N = B)
 abbrev pub brim : List ℕ
