@@ -105,7 +105,7 @@ tag-block-edges = record {
 }
 
 acceptor-edges : AcceptorEdges
-unfolding three six bitAt withBit withoutBit bitsFrom slotsOf blockLen layoutLen inLimits headOf headWords badHead placed stands raised lowered readWord writeWord over badPlace badBlock unsoundSet unsoundClear blocksOut set clear update advance
+unfolding three wide six bitAt withBit withoutBit bitsFrom slotsOf blockLen layoutLen inLimits headOf headWords badHead placed stands raised lowered readWord writeWord over badPlace badBlock unsoundSet unsoundClear blocksOut set clear update advance
 acceptor-edges = record {
   sound = (refl, refl, refl);
   up-2 = (refl, refl, refl);
@@ -126,10 +126,14 @@ acceptor-edges = record {
   taken = refl;
   taken-alone = refl;
   taken-once = refl;
+  taken-high = refl;
+  taken-high-alone = refl;
   taken-two = refl;
   taken-two-alone = refl;
   own-three = refl;
   own-two = refl;
+  own-high-three = refl;
+  own-high-two = refl;
 }
 
 room-edges : RoomEdges
