@@ -68,8 +68,8 @@ pub record PlaceEdges : Type 0 where
   pub high-bit : BothPass wide 2
   pub low-bit : BothRefuse 12 (wide ▹ Bits 2 1 ≔ 0 ▹ Bits 2 0 ≔ 1) 2
 
--- ---- 12: the tag's block will close. Tags 0 and 1 stand in slots 0 and 2 of block 2: one remains, fewer than q. N is 3
--- and B is 7.
+-- ---- 12: the tag's block will close. Tags 0 and 1 stand in slots 0 and 2 of block 2: one remains, fewer than q; N
+-- is 3 and B is 7.
 pub record TagBlockEdges : Type 0 where
   pub sound : BothPass three 0
   -- "an up not below it"
@@ -99,8 +99,8 @@ pub record TagBlockEdges : Type 0 where
   -- nor the acceptor, which a clear does not judge: tag 2 stands there alone
   pub acceptor-stays : BothPass (three ▹ Field 3 upWord ≔ 3) 2
 
--- ---- 12: the acceptor will close. In `brim` it is full and tag 2 alone stands in it. A block opens for a set's record,
--- for the copy of tag 1 that a clear of tag 0 makes, and for that copy with the record of a new reading.
+-- ---- 12: the acceptor will close. In `brim` it is full and tag 2 alone stands in it. A block opens for a set's
+-- record, for the copy of tag 1 that a clear of tag 0 makes, and for that copy with the record of a new reading.
 abbrev pub EachRefuses : ℕ → List ℕ → Type 0
 EachRefuses n ws = Refuses n ws (Set 9 3 70) × Refuses n ws (Clear 9 0) × Refuses n ws (Update 9 0 70)
 

@@ -176,10 +176,13 @@ walk-edges : WalkEdges
 unfolding tree blockLen layoutLen inLimits headOf headWords badHead blockPart levelPart pagePart blockWord slotWord writeWord lastUpTo entries topLevel lookUp descend search rowOf rowsOf neighbour visit path look reader lookAt lookBack
 walk-edges = record {
   sound = refl;
+  tests-12 = refl;
+  tests-none = refl;
   up-6 = (refl, refl);
   up-5 = refl;
   last-up-2 = (refl, refl);
   last-up-1 = refl;
+  up-above = (refl, refl);
   visited-up = refl;
   neighbour-0 = refl;
   neighbour-2 = (refl, refl);
@@ -214,6 +217,11 @@ walk-edges = record {
 page-edges : PageEdges
 unfolding many blockLen layoutLen inLimits headOf headWords badHead blockPart levelPart pagePart blockWord slotWord writeWord lastUpTo entries topLevel lookUp descend search rowOf rowsOf neighbour visit path look reader lookAt lookBack
 page-edges = record {
+  blocks-16 = refl;
+  blocks-17 = refl;
+  blocks-256 = refl;
+  blocks-257 = refl;
+  blocks-32 = refl;
   page-at = refl;
   page-before = (refl, refl);
   low-at = refl;
