@@ -1,4 +1,5 @@
-// The head of the store as one value: read with its refusals, and written.
+// The head of the store as one value: read with its refusals, written, and moved on. A change takes the head, and each of the methods `at`, `filled`,
+// `grown` and `relinked` answers the next one.
 use crate::address;
 use crate::address::Address;
 use crate::fields;
@@ -11,13 +12,13 @@ ghost use Prim.Native.Nat.{_≤_, _<_};
 ghost use lib.ListN.{length};
 ghost use Rattle.layout.specs.Sizes.{headLen, layoutLen};
 ghost use Rattle.layout.specs.Settings.{Within};
-ghost use Rattle.layout.specs.Head.{headOf, withHead, cleared, fillFits, spareZero, badHead, headRefusal, headAnswer, placed};
+ghost use Rattle.layout.specs.Head.{fresh, onward, headOf, withHead, cleared, fillFits, spareZero, badHead, headRefusal, headAnswer, placed};
 ghost use Rattle.layout.specs.HeadLaws.{SoundHead};
 ghost use Rattle.layout.specs.Cursor.{at, filled, grown, relinked, storeCursor};
 ghost use Rattle.layout.specs.Ran.{Ran};
 ghost use Rattle.layout.specs.OnWords.{over, Held};
 
-// What a change moves on: the part of the head that is not settings.
+// The part of the head that moves on: what is not settings.
 pub struct Cursor {
     // N: blocks opened; block N is the acceptor
     pub opened: u32,
@@ -42,79 +43,81 @@ pub enum HeadAnswer {
     Refused(u32),
 }
 
-impl Cursor {
-    // The clock stands at `second`.
-    pub fn at(self, second: u32) -> Cursor
-        ensures { λ r. ⌜ r ≡ at second self ⌝ }
+impl Head {
+    // The head that a start leaves: no block is opened, and the clock is 0.
+    pub fn fresh(settings: Settings) -> Head
+        ensures { λ r. ⌜ r ≡ fresh settings ⌝ }
     {
-        Cursor {
-            opened: self.opened,
-            clock: second,
-            fill: self.fill,
-            child: self.child,
-            right: self.right,
-        }
-    }
-
-    // One record more in the acceptor.
-    pub fn filled(self) -> Cursor
-        requires { ⌜ self .fill < 64 ⌝ }
-        ensures { λ r. ⌜ r ≡ filled self ⌝ }
-    {
-        Cursor {
-            opened: self.opened,
-            clock: self.clock,
-            fill: self.fill + 1,
-            child: self.child,
-            right: self.right,
-        }
-    }
-
-    // One block more, empty; `right` is right of block 0.
-    pub fn grown(self, right: u32) -> Cursor
-        requires { ⌜ self .opened < 4096 ⌝ }
-        ensures { λ r. ⌜ r ≡ grown right self ⌝ }
-    {
-        Cursor {
-            opened: self.opened + 1,
-            clock: self.clock,
+        let cursor = Cursor {
+            opened: 0,
+            clock: 0,
             fill: 0,
-            child: self.child,
-            right,
-        }
+            child: 0,
+            right: 0,
+        };
+        Head { settings, cursor }
     }
 
-    // Block 0's last child and right.
-    pub fn relinked(self, child: u32, right: u32) -> Cursor
-        ensures { λ r. ⌜ r ≡ relinked child right self ⌝ }
+    // The next head, its clock at `second`.
+    pub fn at(self, second: u32) -> Head
+        ensures { λ r. ⌜ r ≡ onward self (at second (self .cursor)) ⌝ }
     {
-        Cursor {
-            opened: self.opened,
-            clock: self.clock,
-            fill: self.fill,
+        let settings = self.settings;
+        let cursor = Cursor {
+            opened: self.cursor.opened,
+            clock: second,
+            fill: self.cursor.fill,
+            child: self.cursor.child,
+            right: self.cursor.right,
+        };
+        Head { settings, cursor }
+    }
+
+    // The next head, with one record more in the acceptor.
+    pub fn filled(self) -> Head
+        requires { ⌜ self .cursor .fill < 64 ⌝ }
+        ensures { λ r. ⌜ r ≡ onward self (filled (self .cursor)) ⌝ }
+    {
+        let settings = self.settings;
+        let cursor = Cursor {
+            opened: self.cursor.opened,
+            clock: self.cursor.clock,
+            fill: self.cursor.fill + 1,
+            child: self.cursor.child,
+            right: self.cursor.right,
+        };
+        Head { settings, cursor }
+    }
+
+    // The next head, with one block more, empty; `right` is right of block 0.
+    pub fn grown(self, right: u32) -> Head
+        requires { ⌜ self .cursor .opened < 4096 ⌝ }
+        ensures { λ r. ⌜ r ≡ onward self (grown right (self .cursor)) ⌝ }
+    {
+        let settings = self.settings;
+        let cursor = Cursor {
+            opened: self.cursor.opened + 1,
+            clock: self.cursor.clock,
+            fill: 0,
+            child: self.cursor.child,
+            right,
+        };
+        Head { settings, cursor }
+    }
+
+    // The next head, with block 0's last child and right.
+    pub fn relinked(self, child: u32, right: u32) -> Head
+        ensures { λ r. ⌜ r ≡ onward self (relinked child right (self .cursor)) ⌝ }
+    {
+        let settings = self.settings;
+        let cursor = Cursor {
+            opened: self.cursor.opened,
+            clock: self.cursor.clock,
+            fill: self.cursor.fill,
             child,
             right,
-        }
-    }
-}
-
-impl Head {
-    pub fn opened(self) -> u32
-        ensures { λ r. ⌜ r ≡ self .cursor .opened ⌝ }
-    {
-        self.cursor.opened
-    }
-
-    pub fn clock(self) -> u32
-        ensures { λ r. ⌜ r ≡ self .cursor .clock ⌝ }
-    {
-        self.cursor.clock
-    }
-
-    pub fn fill(self) -> u32
-        ensures { λ r. ⌜ r ≡ self .cursor .fill ⌝ }
-    {
-        self.cursor.fill
+        };
+        Head { settings, cursor }
     }
 
     // Records placed so far: every block before the acceptor is full.
@@ -258,10 +261,12 @@ pub fn write_head(store: &mut [u32], h: Head)
 }
 
 // The words that a change moves on; the settings are never written again.
-pub fn write_cursor(store: &mut [u32], s: Settings, c: Cursor)
-    requires { ⌜ Held s (now store) ⌝ }
-    ensures { λ _. ⌜ Ran (over s) (storeCursor c) (now (store .entry)) tt (now (store .exit)) ⌝ }
+pub fn write_cursor(store: &mut [u32], h: Head)
+    requires { ⌜ Held (h .settings) (now store) ⌝ }
+    ensures { λ _. ⌜ Ran (over (h .settings)) (storeCursor (h .cursor)) (now (store .entry)) tt (now (store .exit)) ⌝ }
 {
+    let s = h.settings;
+    let c = h.cursor;
     address::write(store, s, Address::Head(fields::HEAD_OPENED), c.opened);
     address::write(store, s, Address::Head(fields::HEAD_CLOCK), c.clock);
     address::write(store, s, Address::Head(fields::HEAD_FILL), c.fill);
