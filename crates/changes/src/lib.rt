@@ -9,8 +9,8 @@ use decisions::Verdict;
 use layout::head;
 use layout::head::Head;
 ghost use Prim.Native.Nat.{_≤_};
+ghost use Rattle.layout.specs.Settings.{settingsOf};
 ghost use Rattle.calls.specs.Step.{start, set, clear, update, advance};
-ghost use Rattle.decisions.specs.Start.{settingsOf};
 ghost use Rattle.changes.specs.Replied.{Replied, clearing};
 
 // What a call answers: the next head, or its refusal by the paper's number.

@@ -1,6 +1,6 @@
 -- HOW THE CODE'S HEAD AND THE PROGRAM'S CURSOR ARE ONE: a program threads the cursor over fixed settings, the code hands on the whole head. The rules
 -- follow the code as those of Ran do.
-use mathlib.Core.Path.{_≡_, refl, sym, ap, ap₂, _∙_, subst}
+use mathlib.Core.Path.{_≡_, refl, sym, ap₂, subst}
 use mathlib.Core.Bool.{Bool, true, false}
 use mathlib.Core.List.{List}
 use Prim.Native.Nat.{ℕ}

@@ -151,17 +151,17 @@ pub fn head_of(store: &[u32]) -> Head
     ensures { λ r. ⌜ r ≡ headOf (now (store .entry)) ⌝ }
 {
     let settings = Settings {
-        block: store[1],
-        useful: store[2],
-        blocks: store[3],
-        tags: store[4],
+        block: store[fields::HEAD_BLOCK],
+        useful: store[fields::HEAD_USEFUL],
+        blocks: store[fields::HEAD_BLOCKS],
+        tags: store[fields::HEAD_TAGS],
     };
     let cursor = Cursor {
-        opened: store[5],
-        clock: store[6],
-        fill: store[7],
-        child: store[8],
-        right: store[9],
+        opened: store[fields::HEAD_OPENED],
+        clock: store[fields::HEAD_CLOCK],
+        fill: store[fields::HEAD_FILL],
+        child: store[fields::HEAD_CHILD],
+        right: store[fields::HEAD_RIGHT],
     };
     Head { settings, cursor }
 }
@@ -171,22 +171,22 @@ fn spare_zero(store: &[u32]) -> bool
     requires { ⌜ headLen ≤ length (now store) ⌝ }
     ensures { λ r. ⌜ r ≡ spareZero (now (store .entry)) ⌝ }
 {
-    if store[10] != 0 {
+    if store[fields::HEAD_SPARE_0] != 0 {
         return false;
     }
-    if store[11] != 0 {
+    if store[fields::HEAD_SPARE_1] != 0 {
         return false;
     }
-    if store[12] != 0 {
+    if store[fields::HEAD_SPARE_2] != 0 {
         return false;
     }
-    if store[13] != 0 {
+    if store[fields::HEAD_SPARE_3] != 0 {
         return false;
     }
-    if store[14] != 0 {
+    if store[fields::HEAD_SPARE_4] != 0 {
         return false;
     }
-    store[15] == 0
+    store[fields::HEAD_SPARE_5] == 0
 }
 
 // Refusal 3: words that no start and no change left.
@@ -194,7 +194,7 @@ fn bad_head(store: &[u32]) -> bool
     requires { ⌜ headLen ≤ length (now store) ⌝ }
     ensures { λ r. ⌜ r ≡ badHead (now (store .entry)) ⌝ }
 {
-    if store[0] != sizes::MARK {
+    if store[fields::HEAD_MARK] != sizes::MARK {
         return true;
     }
     let h = head_of(store);
@@ -242,22 +242,22 @@ pub fn write_head(store: &mut [u32], h: Head)
     requires { ⌜ headLen ≤ length (now store) ⌝ }
     ensures { λ _. ⌜ now (store .exit) ≡ withHead h (now (store .entry)) ⌝ }
 {
-    store[0] = sizes::MARK;
-    store[1] = h.settings.block;
-    store[2] = h.settings.useful;
-    store[3] = h.settings.blocks;
-    store[4] = h.settings.tags;
-    store[5] = h.cursor.opened;
-    store[6] = h.cursor.clock;
-    store[7] = h.cursor.fill;
-    store[8] = h.cursor.child;
-    store[9] = h.cursor.right;
-    store[10] = 0;
-    store[11] = 0;
-    store[12] = 0;
-    store[13] = 0;
-    store[14] = 0;
-    store[15] = 0;
+    store[fields::HEAD_MARK] = sizes::MARK;
+    store[fields::HEAD_BLOCK] = h.settings.block;
+    store[fields::HEAD_USEFUL] = h.settings.useful;
+    store[fields::HEAD_BLOCKS] = h.settings.blocks;
+    store[fields::HEAD_TAGS] = h.settings.tags;
+    store[fields::HEAD_OPENED] = h.cursor.opened;
+    store[fields::HEAD_CLOCK] = h.cursor.clock;
+    store[fields::HEAD_FILL] = h.cursor.fill;
+    store[fields::HEAD_CHILD] = h.cursor.child;
+    store[fields::HEAD_RIGHT] = h.cursor.right;
+    store[fields::HEAD_SPARE_0] = 0;
+    store[fields::HEAD_SPARE_1] = 0;
+    store[fields::HEAD_SPARE_2] = 0;
+    store[fields::HEAD_SPARE_3] = 0;
+    store[fields::HEAD_SPARE_4] = 0;
+    store[fields::HEAD_SPARE_5] = 0;
 }
 
 // The words that a change moves on; the settings are never written again.

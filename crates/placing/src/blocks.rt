@@ -6,14 +6,12 @@ use layout::address::Address;
 use layout::fields;
 use layout::head::Head;
 use layout::settings::Settings;
-use layout::standing::Standing;
 ghost use Prim.Native.Nat.{_<_};
 ghost use Rattle.layout.specs.Ran.{Ran};
 ghost use Rattle.layout.specs.Moved.{Moved};
 ghost use Rattle.layout.specs.Able.{Able};
 ghost use Rattle.layout.specs.OnWords.{over};
-ghost use Rattle.layout.specs.Standing.{slots};
-ghost use Rattle.calls.specs.Placing.{enterTime, openBlock, unlink, standing};
+ghost use Rattle.calls.specs.Placing.{enterTime, openBlock, unlink};
 ghost use Rattle.placing.specs.Steps.{enterFirst};
 
 // The opening second of block i + 1 goes to a level of the index that has the first time of each `every`, if block i + 1 is such a first.
@@ -77,14 +75,4 @@ pub(crate) fn unlink(store: &mut [u32], h: Head, x: u32, second: u32) -> Head
     address::write(store, s, Address::Field(x, fields::LEFT), child);
     address::write(store, s, Address::Field(up, fields::CHILD), x);
     h
-}
-
-// The standing slots of block n.
-pub(crate) fn standing(store: &[u32], s: Settings, n: u32) -> Standing
-    requires { ⌜ Able s (standing n) (now store) ⌝ }
-    ensures { λ r. ⌜ Ran (over s) (standing n) (now (store .entry)) (slots r) (now (store .entry)) ⌝ }
-{
-    let low = address::read(store, s, Address::Bits(n, fields::LOW));
-    let high = address::read(store, s, Address::Bits(n, fields::HIGH));
-    Standing { low, high }
 }

@@ -1,6 +1,7 @@
 // Blocks are judged: one with fewer than q standing closes, and its standing records are placed again. Room for a record is made so, too.
 use crate::blocks;
 use crate::records;
+use layout::address;
 use layout::head::Head;
 use layout::settings::Settings;
 use layout::standing::Standing;
@@ -50,7 +51,7 @@ fn judge_full(store: &mut [u32], h: Head, x: u32, second: u32) -> Head
     ensures { λ r. ⌜ Moved h (judgeFull (h .settings) (h .cursor) x second) (now (store .entry)) r (now (store .exit)) ⌝ }
 {
     let s = h.settings;
-    let bits = blocks::standing(store, s, x);
+    let bits = address::standing(store, s, x);
     if too_few(s, bits) {
         return close_full(store, h, x, second, bits);
     }
@@ -132,7 +133,7 @@ pub(crate) fn judge(store: &mut [u32], h: Head, x: u32, second: u32) -> Head
     ensures { λ r. ⌜ Moved h (judge (h .settings) (h .cursor) x second) (now (store .entry)) r (now (store .exit)) ⌝ }
 {
     let s = h.settings;
-    let bits = blocks::standing(store, s, x);
+    let bits = address::standing(store, s, x);
     if too_few(s, bits) {
         return close(store, h, x, second, bits);
     }

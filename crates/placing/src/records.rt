@@ -5,33 +5,12 @@ use layout::address::Address;
 use layout::fields;
 use layout::head::Head;
 use layout::settings::Settings;
-use layout::standing::Standing;
-ghost use mathlib.Core.Path.{_≡_};
-ghost use Prim.Native.Nat.{_<_};
-ghost use Rattle.base.specs.Bits.{withBit, withoutBit};
+use layout::standing;
 ghost use Rattle.layout.specs.Ran.{Ran};
 ghost use Rattle.layout.specs.Moved.{Moved};
 ghost use Rattle.layout.specs.Able.{Able};
 ghost use Rattle.layout.specs.OnWords.{over};
 ghost use Rattle.calls.specs.Placing.{endRecord, putRecord, moveRecord};
-
-// A word of standing bits with bit k made 1.
-fn with_bit(word: u32, k: u32) -> u32
-    requires { ⌜ k < 32 ⌝ }
-    ensures { λ r. ⌜ r ≡ withBit k word ⌝ }
-{
-    let bits = Standing { low: word, high: 0 };
-    bits.with(k).low
-}
-
-// A word of standing bits with bit k made 0.
-fn without_bit(word: u32, k: u32) -> u32
-    requires { ⌜ k < 32 ⌝ }
-    ensures { λ r. ⌜ r ≡ withoutBit k word ⌝ }
-{
-    let bits = Standing { low: word, high: 0 };
-    bits.without(k).low
-}
 
 // The record of slot k of block n ends at `second`, and stands no more.
 pub(crate) fn end_record(store: &mut [u32], s: Settings, n: u32, k: u32, second: u32)
@@ -42,7 +21,12 @@ pub(crate) fn end_record(store: &mut [u32], s: Settings, n: u32, k: u32, second:
     let bit = k % 32;
     address::write(store, s, Address::Slot(n, k, fields::TO), second);
     let bits = address::read(store, s, Address::Bits(n, half));
-    address::write(store, s, Address::Bits(n, half), without_bit(bits, bit));
+    address::write(
+        store,
+        s,
+        Address::Bits(n, half),
+        standing::bit_off(bits, bit),
+    );
 }
 
 // A record goes to the acceptor's next slot, from `second` on, and the directory follows.
@@ -59,7 +43,12 @@ pub(crate) fn put_record(store: &mut [u32], h: Head, second: u32, tag: u32, read
     address::write(store, s, Address::Slot(n, k, fields::FROM), second);
     address::write(store, s, Address::Slot(n, k, fields::TO), OPEN);
     let bits = address::read(store, s, Address::Bits(n, k / 32));
-    address::write(store, s, Address::Bits(n, k / 32), with_bit(bits, k % 32));
+    address::write(
+        store,
+        s,
+        Address::Bits(n, k / 32),
+        standing::bit_on(bits, k % 32),
+    );
     address::write(store, s, Address::Dir(tag), place);
     h.filled()
 }

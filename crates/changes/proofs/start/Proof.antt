@@ -1,14 +1,9 @@
 -- `start` meets its contract: turned away it leaves all words, else the layout filled with zeros and the head.
-use mathlib.Core.Path.{sym, ap, _∙_, subst⁻¹}
-use Prim.Native.Nat.{_≤_}
+use mathlib.Core.Path.{sym, ap, _∙_}
 use native.Mathlib.Omega.{arith}
-use lib.ListN.{length}
 use borrow.Author.Needs.{needs}
-use Rattle.layout.specs.declared.settings.Settings.{Settings}
-use Rattle.layout.specs.Sizes.{layoutLen}
-use Rattle.layout.specs.Settings.{Within}
+use Rattle.layout.specs.Settings.{settingsOf}
 use Rattle.layout.specs.Head.{withHead}
-use Rattle.decisions.specs.Start.{settingsOf}
 use Rattle.decisions.specs.StartLaws.{go-start}
 use Rattle.changes.specs.ReplyLaws.{start-away, start-done}
 use Rattle.changes.proofs.start.Statement.{statement}

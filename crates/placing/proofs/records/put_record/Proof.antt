@@ -27,8 +27,8 @@ write-requires-4 c κs = let p = put-spot _ _ _ _ (c .before .before .before .be
 read-requires : tie.Need-read-requires
 read-requires c κs = let p = put-spot _ _ _ _ (c .before .before .before .before .before .before .before .before .before .before .before .before .before .before .before .before .before .before .before .before .pre) in search needs
 
-with-bit-requires : tie.Need-with-bit-requires
-with-bit-requires c κs = search needs
+bit-on-requires : tie.Need-bit-on-requires
+bit-on-requires c κs = search needs
 
 write-requires-5 : tie.Need-write-requires-5
 write-requires-5 c κs =
@@ -67,7 +67,7 @@ returns c =
     let d = f .before .before .before .before in
     let b = d .before .before .before .before in
     let a = b .before .before in
-    after (b .write .ensures) (after (d .write2 .ensures) (after (f .write3 .ensures) (after (g .write4 .ensures) (after (h .read .ensures) (after (rw (i .with-bit .ensures) at (j .write5 .ensures)) (after (rw (a .place-of .ensures) at (k .write6 .ensures)) (moves (c .filled .ensures) (k .write6 .ensures .good))))))))
+    after (b .write .ensures) (after (d .write2 .ensures) (after (f .write3 .ensures) (after (g .write4 .ensures) (after (h .read .ensures) (after (rw (i .bit-on .ensures) at (j .write5 .ensures)) (after (rw (a .place-of .ensures) at (k .write6 .ensures)) (moves (c .filled .ensures) (k .write6 .ensures .good))))))))
 
 pub put-record-spec : {M : Type 1} → statement M
 put-record-spec =
@@ -79,7 +79,7 @@ put-record-spec =
     write-requires-3
     write-requires-4
     read-requires
-    with-bit-requires
+    bit-on-requires
     write-requires-5
     write-requires-6
     filled-requires
