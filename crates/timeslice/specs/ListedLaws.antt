@@ -10,7 +10,7 @@ use borrow.Author.Tests.{eq-eqb, ne-eqb, le-leb, lt-leb}
 use Rattle.base.specs.Sums.{All, all-map}
 use Rattle.layout.specs.declared.settings.Settings.{Settings}
 use Rattle.layout.specs.Address.{Numbered}
-use Rattle.layout.specs.Fields.{closedWord, leftWord, childWord}
+use Rattle.layout.specs.Fields.{closedWord}
 use Rattle.layout.specs.Parts.{blockWord}
 use Rattle.calls.specs.Calls.{Row}
 use Rattle.calls.specs.Walk.{Reader, Walk, found, andThen, rowsOf, visit}
@@ -23,18 +23,18 @@ use Rattle.timeslice.specs.declared.walk.Entered.the-variants.{Within, E
 use Rattle.timeslice.specs.Taken.{Takes, all, many}
 use Rattle.timeslice.specs.TakenLaws.{sets-append}
 use Rattle.timeslice.specs.Told.{Told, done, over, bad, VisitTold, Gap}
-use Rattle.timeslice.specs.Listed.{rowsIn, Listed, every, none, VisitListed, leftOf, InsideListed, Enters, within, ended, broken, ListRoom, InsideRoom, RowBuffer}
+use Rattle.timeslice.specs.Listed.{rowsIn, Listed, every, none, VisitListed, InsideListed, Enters, within, ended, broken, ListRoom, InsideRoom, RowBuffer}
 use Rattle.timeslice.specs.VisitLaws.{visit-short, short-found, visit-follows, follows-rows, follows-all}
 
 -- ---- one walk listed after another
-listed-then : {list list₁ list₂ : List ℕ} {n m k : ℕ} {v w : Walk} → Listed list n v m list₁ → 0 < m → Listed list₁ m w k list₂
+pub listed-then : {list list₁ list₂ : List ℕ} {n m k : ℕ} {v w : Walk} → Listed list n v m list₁ → 0 < m → Listed list₁ m w k list₂
     → Listed list n (andThen v w) k list₂
 listed-then {list = list} {n = n} {k = k} (every {r = r} {l = l} e q) h (every {r = r′} {l = l′} e′ q′) =
     every {r = r ++ r′} {l = l ++ l′} {m = k} (simp length-append (omega arith)) (q′ ∙ rw (q, e) (sym (sets-append list n l l′)))
 listed-then (every e q) h none = none
 listed-then none h x = absurd (omega arith)
 
-listed-stop : {list list₁ list₂ : List ℕ} {n m : ℕ} {v : Walk} (w : Walk) → 0 < n → Listed list n v m list₁ → m ≡ 0
+pub listed-stop : {list list₁ list₂ : List ℕ} {n m : ℕ} {v : Walk} (w : Walk) → 0 < n → Listed list n v m list₁ → m ≡ 0
     → Listed list n (andThen v w) 0 list₂
 listed-stop w h (every e q) z = absurd (omega arith)
 listed-stop w h none z = none
@@ -46,7 +46,7 @@ listed-found (every {r = r} {l = l} e q) h = (r, l, refl, e, q)
 listed-found none h = absurd (omega arith)
 
 -- a word of the block that the code is handed
-word-is : {block it : List ℕ} (j : ℕ) {w : ℕ} → block ≡ it → w ≡ blockWord block j → w ≡ blockWord it j
+pub word-is : {block it : List ℕ} (j : ℕ) {w : ℕ} → block ≡ it → w ≡ blockWord block j → w ≡ blockWord it j
 word-is j is e = e ∙ rw is
 
 -- ---- the ways out of a visit of block k
@@ -145,51 +145,6 @@ module _ {s : Settings} {t : ℕ} {R : Reader} {lower upper k : ℕ} {list : Lis
           known = room .known;
           blocks = omega (arith, y .2, room .blocks);
         }
-
--- ---- the two visits inside block k
-module _ {s : Settings} {lower upper k : ℕ} {list : List ℕ} {n : ℕ} (room : InsideRoom s lower upper k n list) where
-  pub inside-numbered : Numbered s k
-  inside-numbered = record { low = omega (arith, room .low); high = omega (arith, room .high, room .known) }
-
-  pub child-room : ListRoom s k upper n list
-  child-room = record {
-    some = room .some;
-    long = room .long;
-    gap = room .high;
-    known = room .known;
-    blocks = omega (arith, room .blocks, room .low);
-  }
-
-  module _ {t : ℕ} {R : Reader} {child m : ℕ} {list₁ : List ℕ} (first : VisitListed s t R k upper child list n m list₁) where
-    -- The visit of the last child stops it,
-    pub inside-stops : {block : List ℕ} → block ≡ R .block k → child ≡ blockWord block childWord → m ≡ 0 → {list₂ : List ℕ}
-        → InsideListed s t R lower upper k list n 0 list₂
-    inside-stops is c z = record {
-      told = λ f h. listed-stop (visit (s .block) t R f lower k (leftOf R k)) (room .some)
-          (rw (word-is childWord is c) at (first .told f (omega (arith, room .low, room .high)))) z;
-    }
-
-    module _ (h : 0 < m) (same : length list₁ ≡ length list) where
-      -- or leaves room for that of the left,
-      pub left-room : ListRoom s lower k m list₁
-      left-room =
-          let (r, l, w, e, q) = listed-found (first .told (suc (upper - k)) (omega arith)) h in
-          let z = short-found (visit-short (s .block) t R (suc (upper - k)) k upper child (room .high)) w in
-          record {
-            some = h;
-            long = omega (arith, room .long);
-            gap = room .low;
-            known = omega (arith, room .known, room .high);
-            blocks = omega (arith, room .blocks);
-          }
-
-    -- which comes next.
-    pub inside-on : 0 < m → {block : List ℕ} → block ≡ R .block k → child ≡ blockWord block childWord → {left : ℕ} → left ≡ blockWord block leftWord
-        → {a : ℕ} {list₂ : List ℕ} → VisitListed s t R lower k left list₁ m a list₂ → InsideListed s t R lower upper k list n a list₂
-    inside-on h is c d second = record {
-      told = λ f g. listed-then (rw (word-is childWord is c) at (first .told f (omega (arith, room .low, room .high)))) h
-          (rw (word-is leftWord is d) at (second .told f (omega (arith, room .low, room .high))));
-    }
 
 -- ---- the whole visit
 -- a walk with its rows taken and its blocks listed

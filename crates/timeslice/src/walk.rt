@@ -122,24 +122,18 @@ fn visit(
     let block = parts::block(store, s, number);
     let child = parts::block_word(block, fields::CHILD);
     let left = parts::block_word(block, fields::LEFT);
-    match enter(store, s, number, upper, child, t, list, listed) {
+    let after = match enter(store, s, number, upper, child, t, list, listed) {
         Entered::Unsound => 0,
-        Entered::Ended(m) => match enter(store, s, lower, number, left, t, list, m) {
-            Entered::Unsound => 0,
-            Entered::Ended(k) => k,
-            Entered::Within(k) => visit(store, s, lower, number, left, t, list, k),
-        },
-        Entered::Within(m) => {
-            let after = visit(store, s, number, upper, child, t, list, m);
-            if after == 0 {
-                return 0;
-            }
-            match enter(store, s, lower, number, left, t, list, after) {
-                Entered::Unsound => 0,
-                Entered::Ended(k) => k,
-                Entered::Within(k) => visit(store, s, lower, number, left, t, list, k),
-            }
-        }
+        Entered::Ended(m) => m,
+        Entered::Within(m) => visit(store, s, number, upper, child, t, list, m),
+    };
+    if after == 0 {
+        return 0;
+    }
+    match enter(store, s, lower, number, left, t, list, after) {
+        Entered::Unsound => 0,
+        Entered::Ended(k) => k,
+        Entered::Within(k) => visit(store, s, lower, number, left, t, list, k),
     }
 }
 
