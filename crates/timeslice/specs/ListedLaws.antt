@@ -22,7 +22,7 @@ use Rattle.timeslice.specs.declared.walk.Entered.{Entered}
 use Rattle.timeslice.specs.declared.walk.Entered.the-variants.{Within, Ended, Unsound}
 use Rattle.timeslice.specs.Taken.{Takes, all, many}
 use Rattle.timeslice.specs.TakenLaws.{sets-append}
-use Rattle.timeslice.specs.Told.{Told, done, over, bad, VisitTold, Gap}
+use Rattle.timeslice.specs.Told.{WalkTold, done, over, bad, VisitTold, Gap}
 use Rattle.timeslice.specs.Listed.{rowsIn, Listed, every, none, VisitListed, InsideListed, Enters, within, ended, broken, ListRoom, InsideRoom, RowBuffer}
 use Rattle.timeslice.specs.VisitLaws.{visit-short, short-found, visit-follows, follows-rows, follows-all}
 
@@ -153,12 +153,12 @@ takes-as a e = rw (← e) a
 
 taken-done : {d : ℕ} {rows list rows′ list′ : List ℕ} {n : Counts} {r : List Row} {l : List ℕ} {m given : ℕ} → m ≡ n .blocks + length l
     → list′ ≡ sets list (n .blocks) l → Takes d rows (n .rows) r (Rows given) rows′
-    → Told d rows list n (found r l) (Done (record { rows = given; pages = n .pages; blocks = m })) rows′ list′
+    → WalkTold d rows list n (found r l) (Done (record { rows = given; pages = n .pages; blocks = m })) rows′ list′
 taken-done {r = r} {l = l} e q (all g f w) =
     done {r = r} {l = l} (record { given = g; pages = refl; blocks = e; fits = f; row-words = w; list-words = q })
 
 taken-over : {d : ℕ} {rows list rows′ list′ : List ℕ} {n : Counts} {r : List Row} {l : List ℕ} → Takes d rows (n .rows) r TooMany rows′
-    → Told d rows list n (found r l) Stopped rows′ list′
+    → WalkTold d rows list n (found r l) Stopped rows′ list′
 taken-over {r = r} (many h) = over {r = r} h
 
 module _ {s : Settings} {lower upper : ℕ} {rows list : List ℕ} {n : Counts} (room : Gap s lower upper n rows list) where
@@ -179,7 +179,7 @@ module _ {s : Settings} {lower upper : ℕ} {rows list : List ℕ} {n : Counts} 
       = q ∙ sets-eq l list a (omega (arith, room .buffers .long-list)) ∙ append-assoc (take a list) l (drop (a + length l) list) in
       rw (i, d, drop-at (take a list) (l ++ drop (a + length l) list) a front) (take-at l (drop (a + length l) list) (length l) refl)
 
-  stops : {m : ℕ} {list′ : List ℕ} {w : Walk} → Listed list (n .blocks) w m list′ → m ≡ 0 → {rows′ : List ℕ} → Told (s .tags) rows list n w Stopped rows′ list′
+  stops : {m : ℕ} {list′ : List ℕ} {w : Walk} → Listed list (n .blocks) w m list′ → m ≡ 0 → {rows′ : List ℕ} → WalkTold (s .tags) rows list n w Stopped rows′ list′
   stops (every e q) z = absurd (omega (arith, room .some))
   stops none z = bad
 

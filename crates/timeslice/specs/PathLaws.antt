@@ -23,7 +23,7 @@ use Rattle.timeslice.specs.declared.walk.Walked.the-variants.{Done, Unso
 use Rattle.timeslice.specs.declared.walk.Step.{Step}
 use Rattle.timeslice.specs.declared.walk.Climbed.{Climbed}
 use Rattle.timeslice.specs.declared.walk.Climbed.the-variants.{On, Unsound as NotOn}
-use Rattle.timeslice.specs.Told.{Told, bad, VisitTold, PathTold, blockWalk, Climbs, on, above, full, upOf, Readable, Space, Gap, Reach, Under}
+use Rattle.timeslice.specs.Told.{WalkTold, bad, VisitTold, PathTold, blockWalk, Climbs, on, above, full, upOf, Readable, Space, Gap, Reach, Under}
 use Rattle.timeslice.specs.ToldLaws.{told-then, told-stop, told-none, told-found, buffers-same}
 use Rattle.timeslice.specs.VisitLaws.{Short, none, few, visit-short, short-found}
 
@@ -79,7 +79,7 @@ module _ (R : Reader) (number : ℕ) {block : List ℕ} (is : block ≡ R .block
     pub climb-above : number ≤ up → Climbs s t R rows list n number NotOn rows list
     climb-above g = above (rw up-is at g)
 
-    module _ (g : up < number) {a : Walked} {rows′ list′ : List ℕ} (told : Told (s .tags) rows list n (blockWalk s t block number) a rows′ list′) where
+    module _ (g : up < number) {a : Walked} {rows′ list′ : List ℕ} (told : WalkTold (s .tags) rows list n (blockWalk s t block number) a rows′ list′) where
       pub climb-full : a ≡ Unsound → Climbs s t R rows list n number NotOn rows′ list′
       climb-full q = full (rw up-is at g) (rw (is, q) at told)
 
@@ -91,10 +91,10 @@ module _ (R : Reader) (number : ℕ) {block : List ℕ} (is : block ≡ R .block
 module _ {s : Settings} {t : ℕ} {R : Reader} {k : ℕ} {rows list : List ℕ} {n : Counts} where
   -- enough fuel is more than none
   with-fuel : {a : Walked} {rows′ list′ : List ℕ}
-      → ((f : ℕ) → k ≤ f → Told (s .tags) rows list n (path (s .block) t R (suc f) k) a rows′ list′) → PathTold s t R k rows list n a rows′ list′
+      → ((f : ℕ) → k ≤ f → WalkTold (s .tags) rows list n (path (s .block) t R (suc f) k) a rows′ list′) → PathTold s t R k rows list n a rows′ list′
   with-fuel {a} {rows′} {list′} g = record { told = go }
     where
-      go : (f : ℕ) → k < f → Told (s .tags) rows list n (path (s .block) t R f k) a rows′ list′
+      go : (f : ℕ) → k < f → WalkTold (s .tags) rows list n (path (s .block) t R f k) a rows′ list′
       go zero q = absurd (omega arith)
       go (suc f) q = g f (omega arith)
 

@@ -7,8 +7,8 @@ use borrow.Fn.PlainCycle.{Measures, is, falls, and}
 use Rattle.layout.specs.Sizes.{pageLen}
 use Rattle.timeslice.specs.Searching.{OnPage, OnEntry}
 use Rattle.timeslice.specs.SearchLaws.{entries-most, entry-page, page-entry, few-read, descend-ground, descend-none, descend-stop, descend-on}
-use Rattle.timeslice.proofs.index.Start.at.Reads as at-reads
-use Rattle.timeslice.proofs.index.Start.passing.Reads as passing-reads
+use Rattle.timeslice.proofs.index.PathStart.at.Reads as at-reads
+use Rattle.timeslice.proofs.index.PathStart.passing.Reads as passing-reads
 use Rattle.timeslice.proofs.index.look_up.Reads as look-up-reads
 use Rattle.timeslice.proofs.index.descend.Reads as descend
 use Rattle.timeslice.proofs.index.descend.Kinds as descend-kinds
