@@ -9,20 +9,21 @@ use Rattle.layout.specs.Address.{Numbered}
 use Rattle.layout.specs.Fields.{leftWord, childWord}
 use Rattle.layout.specs.Parts.{blockWord}
 use Rattle.calls.specs.Walk.{Reader, visit}
+use Rattle.timeslice.specs.ToldLaws.{word-is}
 use Rattle.timeslice.specs.Listed.{VisitListed, leftOf, InsideListed, ListRoom, InsideRoom}
 use Rattle.timeslice.specs.VisitLaws.{visit-short, short-found}
-use Rattle.timeslice.specs.ListedLaws.{listed-then, listed-stop, listed-found, word-is}
+use Rattle.timeslice.specs.ListedLaws.{listed-then, listed-stop, listed-found}
 
 -- ---- a visit, in a list that comes back as long as it was lent
-pub record Visited (s : Settings) (t : ℕ) (R : Reader) (lower upper number : ℕ) (list : List ℕ) (n m : ℕ) (list′ : List ℕ) : Type 0 where
+pub record ChildVisited (s : Settings) (t : ℕ) (R : Reader) (lower upper number : ℕ) (list : List ℕ) (n m : ℕ) (list′ : List ℕ) : Type 0 where
   pub listed : VisitListed s t R lower upper number list n m list′
   pub same : length list′ ≡ length list
 
 -- the same under the names that the code has for its answer and the list where its ends meet
-pub visited-as : {s : Settings} {t : ℕ} {R : Reader} {lower upper k : ℕ} {list : List ℕ} {n m : ℕ} {list₁ : List ℕ}
+pub child-visited : {s : Settings} {t : ℕ} {R : Reader} {lower upper k : ℕ} {list : List ℕ} {n m : ℕ} {list₁ : List ℕ}
     → VisitListed s t R lower upper k list n m list₁ → length list₁ ≡ length list → {a : ℕ} {list₂ : List ℕ} → list₂ ≡ list₁ → a ≡ m
-    → Visited s t R lower upper k list n a list₂
-visited-as v same q e = rw (q, e) (record { listed = v; same = same })
+    → ChildVisited s t R lower upper k list n a list₂
+child-visited v same q e = rw (q, e) (record { listed = v; same = same })
 
 -- ---- what stands before the left part: the last child of block k is visited
 pub record LeftPart (s : Settings) (t : ℕ) (R : Reader) (lower upper k : ℕ) (list : List ℕ) (n left m : ℕ) (list₁ : List ℕ) : Type 0 where
@@ -43,7 +44,7 @@ module _ {s : Settings} {lower upper k : ℕ} {list : List ℕ} {n : ℕ} (room 
     blocks = omega (arith, room .blocks, room .low);
   }
 
-  module _ {t : ℕ} {R : Reader} {child m : ℕ} {list₁ : List ℕ} (first : Visited s t R k upper child list n m list₁)
+  module _ {t : ℕ} {R : Reader} {child m : ℕ} {list₁ : List ℕ} (first : ChildVisited s t R k upper child list n m list₁)
       {block : List ℕ} (is : block ≡ R .block k) (c : child ≡ blockWord block childWord) where
     -- The visit of the last child stops it,
     pub inside-stops : m ≡ 0 → {list₂ : List ℕ} → InsideListed s t R lower upper k list n 0 list₂

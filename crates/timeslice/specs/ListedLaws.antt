@@ -2,7 +2,7 @@
 -- list the whole visit is told.
 use mathlib.Core.Path.{_≡_, refl, sym, _∙_}
 use mathlib.Core.List.{List, [], _∷_, _++_, append-assoc}
-use Prim.Native.Nat.{ℕ, zero, suc, _+_, _-_, _≤_, _<_}
+use Prim.Native.Nat.{ℕ, suc, _+_, _-_, _≤_, _<_}
 use native.Mathlib.Omega.{arith}
 use lib.ListN.{length, set, take, drop, length-append, length-take}
 use lib.Seq.{sets, sets-eq, take-at, drop-at}
@@ -23,8 +23,9 @@ use Rattle.timeslice.specs.declared.walk.Entered.the-variants.{Within, E
 use Rattle.timeslice.specs.Taken.{Takes, all, many}
 use Rattle.timeslice.specs.TakenLaws.{sets-append}
 use Rattle.timeslice.specs.Told.{WalkTold, done, over, bad, VisitTold, Gap}
+use Rattle.timeslice.specs.ToldLaws.{word-is}
 use Rattle.timeslice.specs.Listed.{rowsIn, Listed, every, none, VisitListed, InsideListed, Enters, within, ended, broken, ListRoom, InsideRoom, RowBuffer}
-use Rattle.timeslice.specs.VisitLaws.{visit-short, short-found, visit-follows, follows-rows, follows-all}
+use Rattle.timeslice.specs.VisitLaws.{with-fuel, visit-short, short-found, visit-follows, follows-rows, follows-all}
 
 -- ---- one walk listed after another
 pub listed-then : {list list₁ list₂ : List ℕ} {n m k : ℕ} {v w : Walk} → Listed list n v m list₁ → 0 < m → Listed list₁ m w k list₂
@@ -45,26 +46,17 @@ pub listed-found : {list list′ : List ℕ} {n m : ℕ} {w : Walk} → Listed l
 listed-found (every {r = r} {l = l} e q) h = (r, l, refl, e, q)
 listed-found none h = absurd (omega arith)
 
--- a word of the block that the code is handed
-pub word-is : {block it : List ℕ} (j : ℕ) {w : ℕ} → block ≡ it → w ≡ blockWord block j → w ≡ blockWord it j
-word-is j is e = e ∙ rw is
-
 -- ---- the ways out of a visit of block k
 module _ {s : Settings} {t : ℕ} {R : Reader} {lower upper k : ℕ} {list : List ℕ} {n : ℕ} where
-  -- enough fuel is more than none
-  with-fuel : {m : ℕ} {list′ : List ℕ}
+  enough : {m : ℕ} {list′ : List ℕ}
       → ((f : ℕ) → upper - lower ≤ f → Listed list n (visit (s .block) t R (suc f) lower upper k) m list′)
       → VisitListed s t R lower upper k list n m list′
-  with-fuel {m} {list′} g = record { told = go }
-    where
-      go : (f : ℕ) → upper - lower < f → Listed list n (visit (s .block) t R f lower upper k) m list′
-      go zero q = absurd (omega arith)
-      go (suc f) q = g f (omega arith)
+  enough {m} {list′} g = record { told = with-fuel (λ f. Listed list n (visit (s .block) t R f lower upper k) m list′) (upper - lower) g }
 
   -- There is no block,
   visit-none : k ≡ 0 → VisitListed s t R lower upper k list n n list
   unfolding visit
-  visit-none e = with-fuel (λ f q. rw (eq-eqb k 0 e) (every {r = []} {l = []} {m = n} (omega arith) refl))
+  visit-none e = enough (λ f q. rw (eq-eqb k 0 e) (every {r = []} {l = []} {m = n} (omega arith) refl))
 
   pub enter-none : 0 < n → k ≡ 0 → Enters s t R lower upper k list n (Ended n) list
   enter-none h e = ended (visit-none e) h
@@ -72,7 +64,7 @@ module _ {s : Settings} {t : ℕ} {R : Reader} {lower upper k : ℕ} {list : Lis
   -- or it lies outside of the two numbers,
   visit-low : (k ≡ 0 → ⊥) → k ≤ lower → VisitListed s t R lower upper k list n 0 list
   unfolding visit
-  visit-low e₁ e₂ = with-fuel (λ f q. rw (ne-eqb k 0 e₁, le-leb k lower e₂) none)
+  visit-low e₁ e₂ = enough (λ f q. rw (ne-eqb k 0 e₁, le-leb k lower e₂) none)
 
   pub enter-low : (k ≡ 0 → ⊥) → k ≤ lower → Enters s t R lower upper k list n Unsound list
   enter-low e₁ e₂ = broken (visit-low e₁ e₂)
@@ -80,7 +72,7 @@ module _ {s : Settings} {t : ℕ} {R : Reader} {lower upper k : ℕ} {list : Lis
   module _ (e₂ : lower < k) where
     visit-high : upper ≤ k → VisitListed s t R lower upper k list n 0 list
     unfolding visit
-    visit-high e₃ = with-fuel (λ f q. rw (ne-eqb k 0 (λ z. omega arith), lt-leb k lower e₂, le-leb upper k e₃) none)
+    visit-high e₃ = enough (λ f q. rw (ne-eqb k 0 (λ z. omega arith), lt-leb k lower e₂, le-leb upper k e₃) none)
 
     pub enter-high : upper ≤ k → Enters s t R lower upper k list n Unsound list
     enter-high e₃ = broken (visit-high e₃)
@@ -89,7 +81,7 @@ module _ {s : Settings} {t : ℕ} {R : Reader} {lower upper k : ℕ} {list : Lis
       -- or it closed by t,
       visit-ended : blockWord (R .block k) closedWord ≤ t → VisitListed s t R lower upper k list n (n + 1) (set list n k)
       unfolding visit
-      visit-ended g = with-fuel (λ f q.
+      visit-ended g = enough (λ f q.
           rw (ne-eqb k 0 (λ z. omega arith), lt-leb k lower e₂, lt-leb upper k e₃, le-leb _ t g) (every {r = []} {l = k ∷ []} refl refl))
 
       module _ {block : List ℕ} (is : block ≡ R .block k) {closed : ℕ} (c : closed ≡ blockWord block closedWord) where
@@ -104,7 +96,7 @@ module _ {s : Settings} {t : ℕ} {R : Reader} {lower upper k : ℕ} {list : Lis
   inside-visit : {m : ℕ} {list₁ : List ℕ} → Enters s t R lower upper k list n (Within m) list₁ → {a : ℕ} {list₂ : List ℕ}
       → InsideListed s t R lower upper k list₁ m a list₂ → VisitListed s t R lower upper k list n a list₂
   unfolding visit
-  inside-visit {m} {list₁} (within e₂ e₃ c e q) inside = with-fuel (λ f h.
+  inside-visit {m} {list₁} (within e₂ e₃ c e q) inside = enough (λ f h.
       let z : k ≡ 0 → ⊥ = λ y. omega arith in
       let first : Listed list n (found (rowsOf (s .block) t (R .block k)) (k ∷ [])) m list₁ = every {l = k ∷ []} e q in
       rw (ne-eqb k 0 z, lt-leb k lower e₂, lt-leb upper k e₃, lt-leb _ t c) (listed-then first (omega arith) (inside .told f h)))

@@ -6,6 +6,7 @@ use native.Mathlib.Omega.{arith}
 use lib.ListN.{length, set, length-append}
 use Rattle.layout.specs.declared.settings.Settings.{Settings}
 use Rattle.layout.specs.declared.head.Head.{Head}
+use Rattle.layout.specs.Parts.{blockWord}
 use Rattle.layout.specs.PartsLaws.{BlockPart}
 use Rattle.calls.specs.Calls.{Row}
 use Rattle.calls.specs.Walk.{Walk, unsound, found, andThen}
@@ -91,6 +92,10 @@ part-is r p = p .is ∙ rw (r .is)
 pub block-is : {ws : List ℕ} {h : Head} {number : ℕ} {block : List ℕ} → Readable ws h → BlockPart (h .settings) ws number block
     → block ≡ reader ws .block number
 block-is r p = part-is (blocks-of r) p
+
+-- so a word of the one is the other's
+pub word-is : {block it : List ℕ} (j : ℕ) {w : ℕ} → block ≡ it → w ≡ blockWord block j → w ≡ blockWord it j
+word-is j is e = e ∙ rw is
 
 -- buffers that a call was lent are as long as before
 pub buffers-same : {s : Settings} {rows list rows₁ list₁ : List ℕ} → Buffers s rows list → length rows₁ ≡ length rows → length list₁ ≡ length list

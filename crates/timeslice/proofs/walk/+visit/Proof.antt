@@ -10,7 +10,7 @@ use borrow.Fn.PlainCycle.{Measures, is, falls, and}
 use Rattle.calls.specs.LookBack.{reader}
 use Rattle.timeslice.specs.ToldLaws.{part-is}
 use Rattle.timeslice.specs.ListedLaws.{by-end, by-break, by-inside, inside-room}
-use Rattle.timeslice.specs.InsideLaws.{Visited, visited-as, LeftPart, inside-numbered, child-room, inside-stops, left-part}
+use Rattle.timeslice.specs.InsideLaws.{ChildVisited, child-visited, LeftPart, inside-numbered, child-room, inside-stops, left-part}
 use Rattle.layout.proofs.parts.block.Reads as block-reads
 use Rattle.layout.proofs.parts.block_word.Reads as block-word-reads
 use Rattle.timeslice.proofs.walk.enter.Reads as enter-reads
@@ -88,16 +88,16 @@ module _ (t : ℕ) where
   Child c =
       let at-word = c .before .before .before .before .before .before in
       let a = at-word .before .before .before .before .args in
-      Visited (a .s) (a .t) (reader (a .store .now)) (a .number) (a .upper) (at-word .block-word .result) (a .list .now) (a .listed)
+      ChildVisited (a .s) (a .t) (reader (a .store .now)) (a .number) (a .upper) (at-word .block-word .result) (a .list .now) (a .listed)
       (c .match .after) (c .match .list)
 
   child : (c : visit-lts.At-match-came (calls t) (visit-at t) visit.Post) → Child c
   child c =
       let enter = c .before .before .before .enter in
       let same = enter .kept .1 .1 .1 .1 .1 .1 .0 in
-      ⊎-elim {C = Child c} (λ w. visited-as (by-break (enter .ensures) (w .1 .given .1)) same (w .2) (w .3))
-      (⊎-elim {C = Child c} (λ w. visited-as (by-end (enter .ensures) (w .1 .given .1)) same (w .3) (w .4))
-      (λ w. visited-as (by-inside (enter .ensures) (w .1 .given .1) (w .4 .ensures)) (w .4 .kept .1 .1 .1 .1 .1 .1 .0 ∙ same) (w .7) (w .8)))
+      ⊎-elim {C = Child c} (λ w. child-visited (by-break (enter .ensures) (w .1 .given .1)) same (w .2) (w .3))
+      (⊎-elim {C = Child c} (λ w. child-visited (by-end (enter .ensures) (w .1 .given .1)) same (w .3) (w .4))
+      (λ w. child-visited (by-inside (enter .ensures) (w .1 .given .1) (w .4 .ensures)) (w .4 .kept .1 .1 .1 .1 .1 .1 .0 ∙ same) (w .7) (w .8)))
       (c .match .came)
 
   same-length : visit-lts.Need-same-length (calls t) (visit-at t) visit.Post
