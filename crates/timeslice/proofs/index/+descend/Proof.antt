@@ -19,13 +19,14 @@ use Rattle.timeslice.proofs.index.+descend.Tie.{close}
 abbrev μ-descend : Measures 1 descend-kinds.ps ℕ
 μ-descend κs a = a .1 .1 .1 .0
 
+-- what `descend` is given at the measure t, and what a call of it asks below t
 abbrev descend-at : ℕ → In 1 descend-kinds.ps
 descend-at t = and 1 descend-kinds.ps (is 1 descend-kinds.ps μ-descend t) descend.Pre
 
 abbrev descend-below : ℕ → In 1 descend-kinds.ps
 descend-below t = and 1 descend-kinds.ps (falls 1 descend-kinds.ps _<_ μ-descend t) descend.Pre
 
--- what the calls ask and tell, at the measure t
+-- what the calls at the measure t ask and tell
 abbrev calls : ℕ → descend-lts.Claims
 calls t = (
   at-reads.Asked,

@@ -23,13 +23,14 @@ use Rattle.timeslice.proofs.walk.+visit.Tie.{close}
 abbrev μ-visit : Measures 2 visit-kinds.ps ℕ
 μ-visit κs a = a .1 .1 .1 .0 - a .1 .1 .0
 
+-- what `visit` is given at the measure t, and what a call of it asks below t
 abbrev visit-at : ℕ → In 2 visit-kinds.ps
 visit-at t = and 2 visit-kinds.ps (is 2 visit-kinds.ps μ-visit t) visit.Pre
 
 abbrev visit-below : ℕ → In 2 visit-kinds.ps
 visit-below t = and 2 visit-kinds.ps (falls 2 visit-kinds.ps _<_ μ-visit t) visit.Pre
 
--- what the calls ask and tell, at the measure t
+-- what the calls at the measure t ask and tell
 abbrev calls : ℕ → visit-lts.Claims
 calls t = (
   block-reads.Asked,
