@@ -1,7 +1,7 @@
--- `index::Start::passing` meets its contract.
+-- `index::PathStart::passing` meets its contract.
 use borrow.Author.Needs.{needs}
-use Rattle.timeslice.proofs.index.Start.passing.Statement.{statement}
-use Rattle.timeslice.proofs.index.Start.passing.Tie as tie
+use Rattle.timeslice.proofs.index.PathStart.passing.Statement.{statement}
+use Rattle.timeslice.proofs.index.PathStart.passing.Tie as tie
 
 add-t4 : tie.Need-add-t4
 add-t4 c = search needs
