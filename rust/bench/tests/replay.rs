@@ -6,7 +6,7 @@ use common::{Call, Rng, settings};
 use register::{Entry, Register, Settings, Tally, calls};
 
 /// The words of a journal, read here without the crate `register`: kind and five numbers, six words an entry.
-fn replay(store: &mut [u32], journal: &[u32]) -> (u32, u32) {
+fn replay(store: &mut [u32], journal: &[u32]) -> (u64, u64) {
     let (mut entries, mut accepted) = (0, 0);
     for &[kind, a, b, c, d, _] in journal.as_chunks().0 {
         let told = match kind {
@@ -18,7 +18,7 @@ fn replay(store: &mut [u32], journal: &[u32]) -> (u32, u32) {
             _ => break,
         };
         entries += 1;
-        accepted += u32::from(told.is_ok());
+        accepted += u64::from(told.is_ok());
     }
     (entries, accepted)
 }
@@ -79,7 +79,7 @@ fn journals() {
         let told = Proved::replay(&mut proved, &journal);
         assert_eq!(told, replay(&mut independent, &journal), "seed {seed}");
         assert!(proved == independent, "seed {seed}: the words differ");
-        assert_eq!(told.0 as usize, Entry::all(&journal).count(), "seed {seed}: entries as the wrapper reads them");
+        assert_eq!(told.0, Entry::all(&journal).count() as u64, "seed {seed}: entries as the wrapper reads them");
         totals = (totals.0 + told.0, totals.1 + told.1);
     }
     println!("replay: {} entries read, {} accepted", totals.0, totals.1);

@@ -1,5 +1,5 @@
 //! A register that holds its own words.
-use crate::{LookBack, Reader, Refusal, Register, Settings, calls};
+use crate::{LookBack, Reader, Refusal, Register, Settings, Tally, calls};
 use alloc::vec;
 use alloc::vec::Vec;
 use core::fmt;
@@ -106,9 +106,8 @@ impl OwnedRegister {
 
     /// Makes the calls of a journal: see [`Register::replay`]. The words are not made more: a start among the entries
     /// that needs more is refused.
-    #[cfg(feature = "replay")]
     #[must_use = "it says how many entries were read, which may be fewer than the journal has"]
-    pub fn replay(&mut self, journal: &[u32]) -> crate::Tally {
+    pub fn replay(&mut self, journal: &[u32]) -> Tally {
         calls::replay(&mut self.store, journal)
     }
 

@@ -1,5 +1,5 @@
 //! A register in lent words.
-use crate::{LookBack, Reader, Refusal, Settings, calls};
+use crate::{LookBack, Reader, Refusal, Settings, Tally, calls};
 use core::fmt;
 
 /// A register in words that are lent. It keeps nothing elsewhere, so it may be dropped and opened again.
@@ -105,9 +105,8 @@ impl<'a> Register<'a> {
 
     /// Makes the calls of a journal, one after another; those that are refused change nothing. A start among them
     /// begins a new history, with its own settings.
-    #[cfg(feature = "replay")]
     #[must_use = "it says how many entries were read, which may be fewer than the journal has"]
-    pub fn replay(&mut self, journal: &[u32]) -> crate::Tally {
+    pub fn replay(&mut self, journal: &[u32]) -> Tally {
         calls::replay(self.store, journal)
     }
 
@@ -116,8 +115,7 @@ impl<'a> Register<'a> {
     /// # Errors
     ///
     /// As for [`open`](Register::open), if no start of the journal was accepted.
-    #[cfg(feature = "replay")]
-    pub fn rebuild(store: &'a mut [u32], journal: &[u32]) -> Result<(Register<'a>, crate::Tally), Refusal> {
+    pub fn rebuild(store: &'a mut [u32], journal: &[u32]) -> Result<(Register<'a>, Tally), Refusal> {
         let tally = calls::replay(store, journal);
         Ok((Register::open(store)?, tally))
     }
