@@ -17,7 +17,7 @@
 //! assert_eq!(calls::clear(&mut store, 1, 3), 10);
 //! assert_eq!(Refusal::result_of(10), Err(Refusal::NotStanding));
 //! ```
-use crate::Tally;
+use crate::{Entry, Tally};
 
 mod export {
     unsafe extern "C" {
@@ -90,6 +90,18 @@ pub fn update(store: &mut [u32], second: u32, tag: u32, reading: i32) -> u32 {
 pub fn advance(store: &mut [u32], second: u32) -> u32 {
     // SAFETY: as above.
     unsafe { export::register_advance(store.as_mut_ptr(), store.len(), second) }
+}
+
+/// Makes the call of a journal's entry, and answers as that call does.
+#[must_use = "0 is accepted, any other number a refusal"]
+pub fn apply(store: &mut [u32], entry: Entry) -> u32 {
+    match entry {
+        Entry::Start { block, useful, blocks, tags } => start(store, block, useful, blocks, tags),
+        Entry::Set { second, tag, reading } => set(store, second, tag, reading),
+        Entry::Clear { second, tag } => clear(store, second, tag),
+        Entry::Update { second, tag, reading } => update(store, second, tag, reading),
+        Entry::Advance { second } => advance(store, second),
+    }
 }
 
 /// What stood at a second. `rows` gets tag and reading of each row, `list` the numbers of the blocks read, `answer` the
