@@ -51,9 +51,9 @@ static void *map(int file, size_t bytes, int protection) {
 
 /* ---- The journal ------------------------------------------------------------------------------------------------- */
 
-/* What the program puts into the sixth word of an entry, which no kind uses and no replay looks at: a check of the five
- * others (FNV-1a). A stopped machine may have written one sector of an entry and not the next, or its length and none
- * of its bytes: then the check is wrong. (A kind that is 0 ends a journal, but not every torn entry begins with 0.) */
+/* What the program puts into the sixth word of an entry, which no kind uses and no replay looks at: a check of the
+ * five others (FNV-1a). A stopped machine may have written one sector of an entry and not the next, or its length and
+ * none of its bytes: then the check is wrong. (Kind 0 ends a journal, but not every torn entry begins with a 0.) */
 static uint32_t check_of(const uint32_t *entry) {
     uint32_t check = 2166136261u;
     for (int i = 0; i < 5; i++) check = (check ^ entry[i]) * 16777619u;
@@ -178,8 +178,8 @@ static int parse(char *line, uint32_t *entry) {
  * the call answered is no answer. The next start rebuilds the store, with this change if it is one. */
 static void answer(uint32_t *store, int journal, char *line) {
     uint32_t entry[REGISTER_ENTRY_WORDS] = {0}, refusal = 0;
-    if (!parse(line, entry)) puts("no command; there are: set SECOND TAG READING, clear SECOND TAG, update SECOND TAG READING, "
-                                  "advance SECOND, look SECOND");
+    if (!parse(line, entry)) puts("no command; there are: set SECOND TAG READING, clear SECOND TAG, "
+                                  "update SECOND TAG READING, advance SECOND, look SECOND");
     else refusal = entry[0] == REGISTER_ENTRY_END ? look(store, entry[1]) : change(store, journal, entry);
     if (refusal == REGISTER_HEAD || refusal == REGISTER_UNSOUND) stop("something else wrote the store; start again");
     if (refusal != 0) printf("refused: %s (refusal %lu)\n", register_refusal_text(refusal), (unsigned long)refusal);

@@ -80,9 +80,9 @@ mod system {
     }
 }
 
-/// What the program puts into the sixth word of an entry, which no kind uses and no replay looks at: a check of the five
-/// others (FNV-1a). A stopped machine may have written one sector of an entry and not the next, or its length and none
-/// of its bytes: then the check is wrong. (A kind that is 0 ends a journal, but not every torn entry begins with 0.)
+/// What the program puts into the sixth word of an entry, which no kind uses and no replay looks at: a check of the
+/// five others (FNV-1a). A stopped machine may have written one sector of an entry and not the next, or its length and
+/// none of its bytes: then the check is wrong. (Kind 0 ends a journal, but not every torn entry begins with a 0.)
 fn check_of(entry: &[u32]) -> u32 {
     entry[..5].iter().fold(2_166_136_261, |check, word| (check ^ word).wrapping_mul(16_777_619))
 }

@@ -1,4 +1,4 @@
-//! A plain log of the changes that a program acknowledged: what it must know after a restart, found by replay of a list.
+//! A plain log of the changes that a program acknowledged: what it must know after a restart, found from a list alone.
 use super::Rng;
 use register::{Entry, OPEN};
 use std::collections::BTreeMap;
