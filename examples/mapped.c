@@ -4,7 +4,7 @@
  *
  * Each change goes through four steps. If the program or the machine stops, then after the next start:
  *
- *     1. its entry is appended to the journal    before or in 1 and 2: the change is there, or nothing of it is
+ *     1. its entry is appended to the journal    in 1 or 2: the change is there, or nothing of it is
  *     2. the journal is synced to the disk       from here on: the change is there
  *     3. the call is made on the mapped store    the same: whatever the file has, it is rebuilt
  *     4. the answer is printed                   so what was acknowledged is there
@@ -79,7 +79,8 @@ static size_t whole_entries(const uint32_t *words, size_t bytes) {
 
 /* Cuts off an entry that was not finished, so that the next is appended at a multiple of six words; how many are left.
  * An entry is synced before the next is begun, so only the last can be unfinished, and that was never acknowledged. If
- * more than one lies behind the whole ones, the journal was damaged otherwise: nothing is cut, the program stops. */
+ * more than one lies behind the whole ones, the journal was damaged otherwise: nothing is cut, the program stops.
+ * The sync is also for a last entry that is whole, but was killed before its own sync: from now on it is shown. */
 static size_t cut_tail(int journal) {
     struct stat file;
     if (fstat(journal, &file) != 0) failed("journal");

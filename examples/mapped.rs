@@ -105,6 +105,7 @@ impl Journal {
     /// The words of all entries; one that was not finished is cut off, so that the next is appended at a multiple of
     /// six words. An entry is synced before the next is begun, so only the last can be unfinished, and that was never
     /// acknowledged. If more than one lies behind the whole ones, the journal was damaged otherwise: nothing is cut.
+    /// The sync is also for a last entry that is whole, but was killed before its own sync: from now on it is shown.
     fn read(&mut self) -> Outcome<Vec<u32>> {
         let mut bytes = Vec::new();
         self.file.read_to_end(&mut bytes)?;
@@ -200,10 +201,10 @@ fn run(folder: &Path) -> Outcome<()> {
     File::open(folder)?.sync_all()?;
     let mut journal = Journal { file: journal };
     let mut register = rebuild(system::map(&file, SETTINGS.words())?, &mut journal)?;
-    let (mut input, mut output, mut line) = (io::stdin().lock(), io::stdout().lock(), String::new());
-    while input.read_line(&mut line)? > 0 && line.ends_with('\n') {
+    let (mut input, mut output, mut line) = (io::stdin().lock(), io::stdout().lock(), Vec::new());
+    while input.read_until(b'\n', &mut line)? > 0 && line.ends_with(b"\n") {
         // a last line without its end may be cut short, and is left
-        let text = answer(&mut register, &mut journal, &line)?;
+        let text = answer(&mut register, &mut journal, &String::from_utf8_lossy(&line))?;
         output.write_all(text.as_bytes())?;
         output.flush()?;
         line.clear();

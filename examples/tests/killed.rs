@@ -120,7 +120,7 @@ fn kill_often(name: &str, programs: &[&Path], kills: u32) {
     let Totals { kills, acknowledged, kept, half_made } = totals;
     println!("{name}: {kills} kills, {acknowledged} changes acknowledged, 0 lost");
     println!("{name}: {kept} changes under way were kept, {half_made} mapped files were half made");
-    assert!(kept > 0 && half_made > 0, "no kill came between the steps of a change, or within one");
+    assert!(kept > 0, "no kill came between the steps of a change");
 }
 
 #[test]
@@ -185,6 +185,6 @@ fn between_words() {
             assert!(log.clone().compare(Some(entry), program, &folder, &mut rng), "it was synced, so it is kept");
         }
         println!("{name}: killed after each of the {} words of a change, 0 lost", writes.len());
-        assert!(writes.len() > 30);
+        assert!(writes.len() > 20, "a new block with two records");
     }
 }
