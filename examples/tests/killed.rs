@@ -3,6 +3,7 @@
 mod support;
 use register::Entry;
 use std::fs;
+use std::os::unix::process::ExitStatusExt;
 use std::path::Path;
 use std::process::Child;
 use std::thread::sleep;
@@ -41,6 +42,7 @@ fn killed(program: &Path, folder: &Path, changes: &[Entry], quiet: u32, rng: &mu
         sleep(Duration::from_micros(u64::from(rng.below(3_000 * (4 + many)))));
         child.kill().expect("it can be killed, also if it has ended");
         let ended = child.wait().expect("it is gone");
+        assert!(ended.success() || ended.signal() == Some(9), "it stopped by itself: {ended}");
         (printed(&mut child), !ended.success())
     } else {
         let mut child = traced::start(&mut prepared);

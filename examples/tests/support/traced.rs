@@ -33,13 +33,15 @@ pub fn start(command: &mut Command) -> Child {
     child
 }
 
-/// Whether the program waits for its tracer; else it has ended.
+/// Whether the program waits for its tracer; else it has ended, and well.
 fn is_stopped(child: &Child) -> bool {
     let mut status = 0;
     // SAFETY: one word is lent.
     let told = unsafe { waitpid(id(child), &raw mut status, 0) };
     assert!(told == id(child), "waitpid: {}", io::Error::last_os_error());
-    status & 0xff == 0x7f
+    let stopped = status & 0xff == 0x7f;
+    assert!(stopped || status == 0, "it stopped by itself: status {status:#x}");
+    stopped
 }
 
 fn id(child: &Child) -> c_int {
