@@ -6,11 +6,11 @@ use lib.ListN.{replicate}
 use Rattle.layout.specs.declared.address.Address.the-variants.{Head, Time, Field, Slot}
 use Rattle.layout.specs.Sizes.{OPEN}
 use Rattle.layout.specs.Fields.{headClock, headChild, closedWord, upWord, leftWord, childWord, toWord}
 use Rattle.calls.specs.Calls.{Call, Ask, LookBack}
 use Rattle.calls.specs.Refusals.{refusal}
 use Rattle.calls.specs.Step.{step, testsOf}
 use Rattle.calls.specs.Table.{view, onePage}
-use Rattle.calls.specs.EdgesStores.{Refuses, Passes, _▹_, _≔_, tree, many}
+use Rattle.edges.specs.EdgesStores.{Refuses, Passes, _▹_, _≔_, tree, many}
 
 -- a look-back at t with two buffers of so many words, each 77
 abbrev pub asked : ℕ → ℕ → ℕ → Call
