@@ -1,4 +1,5 @@
-// After an accepted change: the store against the book and the log. Each function answers 0, or the number of what does not agree.
+// After an accepted start or change: the store against the book and the log. A function answers 0 where they agree, else the number of what
+// does not, or (head, seconds) the bits that differ.
 use crate::book;
 use crate::log;
 use crate::notes::Notes;
@@ -28,13 +29,13 @@ const DIRECTORY: u32 = 9;
 // Mark and settings, N, the clock and the six zeros: all that differs.
 fn head(store: &Store, notes: &Notes, s: Settings) -> u32 {
     (word(store, 0) ^ 7001)
-        | settings_word(store, s)
+        | head_settings(store, s)
         | (word(store, 5) ^ get(notes, book::BLOCKS))
         | (word(store, 6) ^ get(notes, log::CLOCK))
         | zeros(store)
 }
 
-fn settings_word(store: &Store, s: Settings) -> u32 {
+fn head_settings(store: &Store, s: Settings) -> u32 {
     (word(store, 1) ^ s.block)
         | (word(store, 2) ^ s.useful)
         | (word(store, 3) ^ s.blocks)

@@ -1,4 +1,5 @@
-// The register's calls, each on the first `length` words of the store, or on all if it has fewer; what a look-back leaves goes into the notes.
+// The register's calls, each on the first words of the store: as many as are asked for, or all that there are. What a look-back leaves goes
+// into the notes.
 use crate::asked::CLEAR;
 use crate::asked::Change;
 use crate::asked::LookBack;
@@ -35,6 +36,7 @@ pub fn start(store: &mut Store, length: u32, s: Settings) -> u32 {
     start_on(store, wide(length), s)
 }
 
+// The lent words are cut already.
 fn change_lent(lent: &mut [u32], c: Change) -> u32 {
     if c.kind == SET {
         return register::register_set(lent, c.second, c.tag, c.reading);
@@ -63,6 +65,7 @@ type Buffer = [u32; 640];
 // Words of a buffer beyond the lent ones that are noted too.
 pub const SPARE: u32 = 8;
 
+// A buffer of marks.
 fn marked() -> Buffer {
     let mut buffer = [0u32; 640];
     for i in 0..640 {

@@ -70,6 +70,7 @@ pub fn current(notes: &Notes) -> Settings {
     )
 }
 
+// How many words a store with these settings has.
 pub fn layout(notes: &Notes) -> u32 {
     settings::layout(current(notes))
 }
@@ -112,7 +113,7 @@ fn write(notes: &mut Notes, i: u32, c: Change) {
     put_at(notes, i, READING, c.reading);
 }
 
-// Change i stands, if it is no clear: what the state has for its tag then.
+// What the state has for the tag of change i once this is played: its number, or 0 after a clear.
 fn left_by(notes: &Notes, i: u32) -> u32 {
     if word(notes, i, KIND) == CLEAR { 0 } else { i }
 }
@@ -136,6 +137,7 @@ pub fn state_at(notes: &mut Notes, t: u32) {
     }
 }
 
+// In that state:
 pub fn stands(notes: &Notes, tag: u32) -> bool {
     at(notes, STATE, tag) != 0
 }
@@ -157,7 +159,7 @@ pub fn standing(notes: &Notes) -> u32 {
     found
 }
 
-// A change of this kind is one for a tag that stands or, a set, for one that does not.
+// The tag can have a change of this kind: a set if it does not stand, any other if it stands.
 pub fn fits(notes: &Notes, kind: u32, tag: u32) -> bool {
     if kind == SET {
         return !stands(notes, tag);

@@ -27,7 +27,7 @@ pub const FORMER: u32 = 51200;
 // The state at a second, by tag: the number of the change that made it, from 1, while the tag stands, else 0.
 pub const STATE: u32 = 57344;
 
-// By block: 1 once the list that is compared has named it.
+// By block: 1 once the list that is compared has named it. The words of this part end where the next starts.
 pub const NAMED: u32 = 58368;
 
 pub const NAMED_END: u32 = 60416;
@@ -65,6 +65,7 @@ pub fn put_at(notes: &mut Notes, part: u32, i: u32, word: u32) {
     put(notes, sum(part, i), word);
 }
 
+// Adds n to a word.
 pub fn add(notes: &mut Notes, i: u32, n: u32) {
     let before = get(notes, i);
     put(notes, i, sum(before, n));
