@@ -2,7 +2,6 @@
 use mathlib.Core.Path.{_≡_}
 use mathlib.Core.List.{List, [], _∷_}
 use Prim.Native.Nat.{ℕ}
-use Rattle.layout.specs.Settings.{settingsOf}
 use Rattle.calls.specs.Calls as calls
 use Rattle.calls.specs.Step.{step}
 use Rattle.changes.specs.declared.Change.{Change}
@@ -17,7 +16,7 @@ use Rattle.applying.specs.declared.call.Answer.the-variants.{Done, Shown
 
 -- the call of the definitions, a look-back with the buffers that it is lent
 abbrev pub callOf : Call → List ℕ → List ℕ → calls.Call
-callOf (Start b q blocks tags) rows list = calls.Start (settingsOf b q blocks tags)
+callOf (Start asked) rows list = calls.Start asked
 callOf (Set s tag reading) rows list = calls.Set s tag reading
 callOf (Clear s tag) rows list = calls.Clear s tag
 callOf (Update s tag reading) rows list = calls.Update s tag reading
@@ -31,7 +30,7 @@ answerOf (calls.Refused n) = Refused n
 
 -- the two buffers after a call: as a look-back's reply has them; no other call touches them
 abbrev pub buffersAfter : Call → List ℕ → List ℕ → List (List ℕ) → List (List ℕ)
-buffersAfter (Start b q blocks tags) rows list replied = rows ∷ list ∷ []
+buffersAfter (Start asked) rows list replied = rows ∷ list ∷ []
 buffersAfter (Set s tag reading) rows list replied = rows ∷ list ∷ []
 buffersAfter (Clear s tag) rows list replied = rows ∷ list ∷ []
 buffersAfter (Update s tag reading) rows list replied = rows ∷ list ∷ []

@@ -1,6 +1,7 @@
 // A JOURNAL OF CHANGES, from which a store is rebuilt. Six words an entry: its kind and five numbers, of which a kind uses the first ones.
 // An entry of no kind ends the journal (0 is none, so that a zeroed tail is no entry), and so does one that is cut short.
 use changes::Change;
+use layout::settings::Settings;
 ghost use mathlib.Core.Path.{_≡_};
 ghost use Prim.Native.Nat.{_+_, _≤_};
 ghost use lib.ListN.{length};
@@ -50,7 +51,7 @@ fn play(store: &mut [u32], kind: u32, a: u32, b: u32, c: u32, d: u32) -> Played
     ensures { λ r. ⌜ Plays (now (store .entry)) (entryOf kind a b c d) r (now (store .exit)) ⌝ }
 {
     if kind == START {
-        return counts(changes::start(store, a, b, c, d));
+        return counts(changes::start(store, Settings::asked(a, b, c, d)));
     }
     if kind == SET {
         return counts(changes::set(store, a, b, c));

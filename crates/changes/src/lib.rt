@@ -8,8 +8,8 @@ use decisions::StartVerdict;
 use decisions::Verdict;
 use layout::head;
 use layout::head::Head;
+use layout::settings::Settings;
 ghost use Prim.Native.Nat.{_≤_};
-ghost use Rattle.layout.specs.Settings.{settingsOf};
 ghost use Rattle.calls.specs.Step.{start, set, clear, update, advance};
 ghost use Rattle.changes.specs.Replied.{Replied, clearing};
 
@@ -20,10 +20,10 @@ pub enum Change {
 }
 
 // A new register: the layout filled with zeros, then the head.
-pub fn start(store: &mut [u32], block: u32, useful: u32, blocks: u32, tags: u32) -> Change
-    ensures { λ r. ⌜ Replied (start (now (store .entry)) (settingsOf block useful blocks tags)) r (now (store .exit)) ⌝ }
+pub fn start(store: &mut [u32], asked: Settings) -> Change
+    ensures { λ r. ⌜ Replied (start (now (store .entry)) asked) r (now (store .exit)) ⌝ }
 {
-    let verdict = decisions::decide_start(store, block, useful, blocks, tags);
+    let verdict = decisions::decide_start(store, asked);
     match verdict {
         StartVerdict::Refused(n) => Change::Refused(n),
         StartVerdict::Go(s) => {

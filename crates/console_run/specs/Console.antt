@@ -5,6 +5,7 @@ use mathlib.Core.List.{List, [], _∷_, _++_}
 use Prim.Native.Nat.{ℕ, zero, suc, _+_, _*_}
 use lib.Dec.{eqb}
 use lib.ListN.{getD, replicate}
+use Rattle.layout.specs.Settings.{settingsOf}
 use Rattle.calls.specs.Step.{step}
 use Rattle.applying.specs.declared.call.Call.{Call}
 use Rattle.applying.specs.declared.call.Call.the-variants as call
@@ -84,7 +85,7 @@ called done refused time call words =
 
 -- "Start is called before the third line is read; refused, it prints `no` at time 0 and ends the run."
 unfoldable pub settingsDo : SettingsLine → Lent → Does
-settingsDo (settings.Values b q blocks tags) words = called ChangeNames Over 0 (call.Start b q blocks tags) words
+settingsDo (settings.Values b q blocks tags) words = called ChangeNames Over 0 (call.Start (settingsOf b q blocks tags)) words
 settingsDo settings.Bad words = only (badAt Settings) words
 
 -- "Signs: + set, - clear, = new reading, . clock, ? look back"

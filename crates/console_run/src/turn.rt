@@ -5,6 +5,7 @@ use console_text::gather::Gather;
 use console_text::parse;
 use console_text::parse::Line;
 use console_text::parse::SettingsLine;
+use layout::settings::Settings;
 ghost use mathlib.Core.Path.{_≡_};
 ghost use Prim.Native.Nat.{min};
 ghost use lib.ListN.{take};
@@ -130,7 +131,7 @@ fn settings(text: &[u8], store: &mut [u32], rows: &mut [u32], list: &mut [u32]) 
 {
     match parse::parse_settings(text) {
         SettingsLine::Values(b, q, blocks, tags) => called(
-            Call::Start(b, q, blocks, tags),
+            Call::Start(Settings::asked(b, q, blocks, tags)),
             0,
             Stage::ChangeNames,
             Stage::Over,

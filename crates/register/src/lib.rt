@@ -38,7 +38,7 @@ pub extern "C" fn register_start(
 ) -> u32
     ensures { λ r. ⌜ Exported (step (now (store .entry)) (Start (settingsOf block useful blocks tags))) r (now (store .exit)) ⌝ }
 {
-    let change = changes::start(store, block, useful, blocks, tags);
+    let change = changes::start(store, Settings::asked(block, useful, blocks, tags));
     number(change)
 }
 
@@ -111,12 +111,7 @@ pub extern "C" fn register_look_back(
 pub extern "C" fn register_words(block: u32, useful: u32, blocks: u32, tags: u32) -> usize
     ensures { λ r. ⌜ r ≡ wordsFor (settingsOf block useful blocks tags) ⌝ }
 {
-    let asked = Settings {
-        block,
-        useful,
-        blocks,
-        tags,
-    };
+    let asked = Settings::asked(block, useful, blocks, tags);
     if asked.within() {
         return asked.words();
     }

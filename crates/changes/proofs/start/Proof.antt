@@ -2,7 +2,6 @@
 use mathlib.Core.Path.{sym, ap, _∙_}
 use native.Mathlib.Omega.{arith}
 use borrow.Author.Needs.{needs}
-use Rattle.layout.specs.Settings.{settingsOf}
 use Rattle.layout.specs.Head.{withHead}
 use Rattle.decisions.specs.StartLaws.{go-start}
 use Rattle.changes.specs.ReplyLaws.{start-away, start-done}
@@ -24,13 +23,13 @@ fresh-requires c κs = search needs
 clear-layout-requires : tie.Need-clear-layout-requires
 clear-layout-requires c κs =
     let a = c .before .before .before .before .before .before .before .before .args in
-    let g = go-start (a .store .now) (settingsOf (a .block) (a .useful) (a .blocks) (a .tags)) (sym (c .before .before .before .before .before .decide-start .ensures) ∙ c .before .before .before .verdict2 .given .1) in
+    let g = go-start (a .store .now) (a .asked) (sym (c .before .before .before .before .before .decide-start .ensures) ∙ c .before .before .before .verdict2 .given .1) in
     rw (g .0) (g .1 .within, g .1 .long)
 
 write-head-requires : tie.Need-write-head-requires
 write-head-requires c κs =
     let a = c .before .before .before .before .before .before .before .before .before .before .before .before .args in
-    let g = go-start (a .store .now) (settingsOf (a .block) (a .useful) (a .blocks) (a .tags)) (sym (c .before .before .before .before .before .before .before .before .before .decide-start .ensures) ∙ c .before .before .before .before .before .before .before .verdict2 .given .1) in
+    let g = go-start (a .store .now) (a .asked) (sym (c .before .before .before .before .before .before .before .before .before .decide-start .ensures) ∙ c .before .before .before .before .before .before .before .verdict2 .given .1) in
     omega (arith, g .1 .head)
 
 same-length : tie.Need-same-length
@@ -39,7 +38,7 @@ same-length c = search needs
 returns : tie.Need-returns
 returns c =
     let a = c .before .before .before .before .before .before .args in
-    start-away (a .store .now) (settingsOf (a .block) (a .useful) (a .blocks) (a .tags)) (sym (c .before .before .before .decide-start .ensures) ∙ c .before .verdict .given .1)
+    start-away (a .store .now) (a .asked) (sym (c .before .before .before .decide-start .ensures) ∙ c .before .verdict .given .1)
 
 same-length-2 : tie.Need-same-length-2
 same-length-2 c = search needs
@@ -47,7 +46,7 @@ same-length-2 c = search needs
 returns-2 : tie.Need-returns-2
 returns-2 c =
     let a = c .before .before .before .before .before .before .before .before .before .before .before .before .before .before .before .args in
-    start-done (a .store .now) (settingsOf (a .block) (a .useful) (a .blocks) (a .tags)) (sym (c .before .before .before .before .before .before .before .before .before .before .before .before .decide-start .ensures) ∙ c .before .before .before .before .before .before .before .before .before .before .verdict2 .given .1)
+    start-done (a .store .now) (a .asked) (sym (c .before .before .before .before .before .before .before .before .before .before .before .before .decide-start .ensures) ∙ c .before .before .before .before .before .before .before .before .before .before .verdict2 .given .1)
     (c .before .before .before .before .before .before .before .before .fresh .ensures)
     (c .before .before .write-head .ensures ∙ ap (withHead _) (c .before .before .before .before .before .before .clear-layout .ensures))
 
