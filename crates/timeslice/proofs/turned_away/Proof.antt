@@ -1,6 +1,6 @@
 -- `turned_away` meets its contract: each test is one of the table's.
 use native.Mathlib.Omega.{arith}
-use Rattle.timeslice.specs.AnswerLaws.{InTime, own-short, own-open, own-late, in-time, own-rows, own-list, own-none}
+use Rattle.timeslice.specs.TurnedAwayLaws.{InTime, own-short, own-open, own-late, in-time, own-rows, own-list, own-none}
 use borrow.Author.Needs.{needs}
 use Rattle.timeslice.proofs.turned_away.Statement.{statement}
 use Rattle.timeslice.proofs.turned_away.Tie as tie
