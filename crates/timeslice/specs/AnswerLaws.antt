@@ -2,17 +2,16 @@
 use mathlib.Core.Path.{_≡_, refl, sym, ap, _∙_}
 use mathlib.Core.Bool.{Bool, true, false, cond, _||_}
 use mathlib.Core.List.{List}
-use Prim.Native.Nat.{ℕ, suc, _+_, _*_, _≤_, _<_}
+use Prim.Native.Nat.{ℕ, suc, _+_, _*_, _≤_}
 use native.Mathlib.Omega.{arith}
 use lib.Dec.{eqb, ltb}
 use lib.ListN.{length}
 use lib.Seq.{sets, sets-eq}
-use borrow.Author.Tests.{lt-ltb, le-ltb, ltb-false, le-leb, lt-leb}
+use borrow.Author.Tests.{lt-ltb, le-ltb, ltb-false}
 use Rattle.base.specs.Branch.{by-test, or-false}
 use Rattle.layout.specs.declared.head.Head.{Head}
 use Rattle.layout.specs.declared.head.HeadAnswer.the-variants.{Read, Refused as HeadRefused}
-use Rattle.layout.specs.Sizes.{OPEN, headLen, rowLen, layoutLen}
-use Rattle.layout.specs.SettingsLaws.{StoreLong}
+use Rattle.layout.specs.Sizes.{headLen, rowLen, layoutLen}
 use Rattle.layout.specs.Head.{badHead, headAnswer, headOf}
 use Rattle.layout.specs.HeadLaws.{HeadRead, read-again}
 use Rattle.layout.specs.OnWords.{fits-held}
@@ -157,38 +156,6 @@ module _ {ws : List ℕ} {h : Head} (read : HeadRead ws h) (t : ℕ) (rows list 
       buffers-ready =
           let p = or-false (ltb (length rows) (rowLen * h .settings .tags)) (ltb (length list) (h .settings .blocks)) (none .3) in
           record { long-rows = ltb-false _ _ (p .0); long-list = ltb-false _ _ (p .1) }
-
--- ---- its own tests, in order
-module _ (h : Head) (words t rows list : ℕ) where
-  abbrev ownRefusal : ℕ
-  ownRefusal = refusal (ownTests h words t rows list)
-
-  pub own-short : {n : ℕ} → StoreLong (h .settings) n → words < n → 4 ≡ ownRefusal
-  own-short s a = rw (lt-ltb words (layoutLen (h .settings)) (rw (s .is) at a))
-
-  module _ {n : ℕ} (s : StoreLong (h .settings) n) (a : n ≤ words) where
-    fits : ltb words (layoutLen (h .settings)) ≡ false
-    fits = le-ltb words (layoutLen (h .settings)) (rw (s .is) at a)
-
-    pub own-open : t ≡ OPEN → 5 ≡ ownRefusal
-    own-open b = rw (fits, le-leb OPEN t (omega arith))
-
-    module _ (b : (t ≡ OPEN → ⊥) × (t ≤ OPEN)) where
-      known : isOpen t ≡ false
-      known = lt-leb OPEN t (omega (arith, b .0, b .1))
-
-      pub own-late : h .cursor .clock < t → 7 ≡ ownRefusal
-      own-late c = rw (fits, known, lt-ltb _ t c)
-
-      module _ (c : t ≤ h .cursor .clock) where
-        pub own-rows : rows < rowLen * h .settings .tags → 11 ≡ ownRefusal
-        own-rows d = rw (fits, known, le-ltb _ t c, lt-ltb rows _ d)
-
-        pub own-list : rowLen * h .settings .tags ≤ rows → list < h .settings .blocks → 11 ≡ ownRefusal
-        own-list d e = rw (fits, known, le-ltb _ t c, le-ltb rows _ d, lt-ltb list _ e)
-
-        pub own-none : rowLen * h .settings .tags ≤ rows → h .settings .blocks ≤ list → 0 ≡ ownRefusal
-        own-none d e = rw (fits, known, le-ltb _ t c, le-ltb rows _ d, le-ltb list _ e)
 
 -- ---- search and path
 -- what was searched, taken apart

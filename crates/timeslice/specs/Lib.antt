@@ -11,4 +11,5 @@ pub mod InsideLaws
 pub mod VisitedLaws
 pub mod PathLaws
 pub mod SearchLaws
+pub mod TurnedAwayLaws
 pub mod AnswerLaws
