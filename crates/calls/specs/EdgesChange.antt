@@ -64,12 +64,12 @@ pub record PlaceEdges : Type 0 where
   -- "or no standing bit": none at all; all others
   pub no-bit : BothRefuse 12 (three ▹ Bits 3 0 ≔ 0) 2
   pub other-bits : BothRefuse 12 (three ▹ Bits 3 0 ≔ 23) 2
-  -- the standing bit of slot 32 is in the high word
-  pub high-bit : BothPass wide 0
-  pub low-bit : BothRefuse 12 (wide ▹ Bits 1 1 ≔ 0 ▹ Bits 1 0 ≔ 1) 0
+  -- that of slot 32 is in the high word, not in the low one
+  pub high-bit : BothPass wide 2
+  pub low-bit : BothRefuse 12 (wide ▹ Bits 2 1 ≔ 0 ▹ Bits 2 0 ≔ 1) 2
 
--- ---- 12: the tag's block will close. Tags 0 and 1 stand in slots 0 and 2 of block 2: one remains, fewer than q. N is 3
--- and B is 7.
+-- ---- 12: the tag's block will close. Tags 0 and 1 stand in slots 0 and 2 of block 2: one remains, fewer than q; N
+-- is 3 and B is 7.
 pub record TagBlockEdges : Type 0 where
   pub sound : BothPass three 0
   -- "an up not below it"
@@ -99,8 +99,8 @@ pub record TagBlockEdges : Type 0 where
   -- nor the acceptor, which a clear does not judge: tag 2 stands there alone
   pub acceptor-stays : BothPass (three ▹ Field 3 upWord ≔ 3) 2
 
--- ---- 12: the acceptor will close. In `brim` it is full and tag 2 alone stands in it. A block opens for a set's record,
--- for the copy of tag 1 that a clear of tag 0 makes, and for that copy with the record of a new reading.
+-- ---- 12: the acceptor will close. In `brim` it is full and tag 2 alone stands in it. A block opens for a set's
+-- record, for the copy of tag 1 that a clear of tag 0 makes, and for that copy with the record of a new reading.
 abbrev pub EachRefuses : ℕ → List ℕ → Type 0
 EachRefuses n ws = Refuses n ws (Set 9 3 70) × Refuses n ws (Clear 9 0) × Refuses n ws (Update 9 0 70)
 
@@ -134,12 +134,17 @@ pub record AcceptorEdges : Type 0 where
   pub taken : Passes (three ▹ Field 3 upWord ≔ 3) (Update 9 0 70)
   pub taken-alone : Refuses 12 (three ▹ Bits 3 0 ≔ 0 ▹ Field 3 upWord ≔ 3) (Update 9 0 70)
   pub taken-once : Refuses 12 (three ▹ Bits 3 0 ≔ 16 ▹ Field 3 upWord ≔ 3) (Update 9 0 70)
+  -- slot 32, in the high word
+  pub taken-high : Passes (wide ▹ Head headFill ≔ 32 ▹ Bits 2 1 ≔ 0 ▹ Bits 2 0 ≔ 1 ▹ Field 2 upWord ≔ 2) (Update 9 0 70)
+  pub taken-high-alone : Refuses 12 (wide ▹ Head headFill ≔ 32 ▹ Bits 2 1 ≔ 0 ▹ Field 2 upWord ≔ 2) (Update 9 0 70)
   -- slots 4 and 5, by two copies, where q is 3
   pub taken-two : Passes (six ▹ Field 2 upWord ≔ 2) (Update 9 0 70)
   pub taken-two-alone : Refuses 12 (six ▹ Bits 2 0 ≔ 0 ▹ Field 2 upWord ≔ 2) (Update 9 0 70)
   -- where the tag's own record lies there, it has ended by then: of three q stand, of two fewer than q
   pub own-three : Passes (brim ▹ Bits 3 0 ≔ 11 ▹ Field 3 upWord ≔ 3) (Update 9 2 70)
   pub own-two : Refuses 12 (brim ▹ Bits 3 0 ≔ 10 ▹ Field 3 upWord ≔ 3) (Update 9 2 70)
+  pub own-high-three : Passes (wide ▹ Bits 2 0 ≔ 3 ▹ Field 2 upWord ≔ 2) (Update 9 2 70)
+  pub own-high-two : Refuses 12 (wide ▹ Bits 2 0 ≔ 1 ▹ Field 2 upWord ≔ 2) (Update 9 2 70)
 
 -- ---- 13: "The change would open a block and N = B". In `out` N and B are 3 and the acceptor is full.
 pub record RoomEdges : Type 0 where

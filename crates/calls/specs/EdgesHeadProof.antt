@@ -1,4 +1,4 @@
--- The edges of refusals 1 to 4 hold. The tests that every call but a start begins with are computed once for all calls.
+-- The edges of refusals 1 to 4 hold: the tests that every call but a start begins with are computed once for all.
 use mathlib.Core.Path.{_≡_, refl, sym}
 use mathlib.Core.Bool.{Bool, true, false, cond}
 use mathlib.Core.List.{List, [], _∷_, _++_}

@@ -7,7 +7,8 @@ use Rattle.layout.specs.declared.address.Address.the-variants.{Head, Time, Fiel
 use Rattle.layout.specs.Sizes.{OPEN}
 use Rattle.layout.specs.Fields.{headClock, headChild, closedWord, upWord, leftWord, childWord, toWord}
 use Rattle.calls.specs.Calls.{Call, Ask, LookBack}
-use Rattle.calls.specs.Step.{step}
+use Rattle.calls.specs.Refusals.{refusal}
+use Rattle.calls.specs.Step.{step, testsOf}
 use Rattle.calls.specs.Table.{view, onePage}
 use Rattle.calls.specs.EdgesStores.{Refuses, Passes, _▹_, _≔_, tree, many}
 
@@ -47,11 +48,15 @@ Unsound ws = Zeroes ws 8 6 8
 pub record WalkEdges : Type 0 where
   -- the walk that is damaged below: path 6, 2; from 6 a visit of 4, its last child 5 and its left 3; from 2 of 1
   pub sound : step tree (asked 8 6 8) .answer ≡ view [] (6 ∷ 4 ∷ 5 ∷ 3 ∷ 2 ∷ 1 ∷ []) onePage 1
+  -- 12 is among the refusals that are listed for it, and none is for the sound walk
+  pub tests-12 : refusal (testsOf (tree ▹ Field 6 upWord ≔ 6) (asked 8 6 8)) ≡ 12
+  pub tests-none : refusal (testsOf tree (asked 8 6 8)) ≡ 0
   -- "an up not below its block": the first of the path, and the last; not of a block that is only visited
   pub up-6 : Unsound (tree ▹ Field 6 upWord ≔ 6)
   pub up-5 : Sees (tree ▹ Field 6 upWord ≔ 5)
   pub last-up-2 : Unsound (tree ▹ Field 2 upWord ≔ 2)
   pub last-up-1 : Sees (tree ▹ Field 2 upWord ≔ 1)
+  pub up-above : Unsound (tree ▹ Field 2 upWord ≔ 5 ▹ Field 5 upWord ≔ 0)
   pub visited-up : Sees (tree ▹ Field 4 upWord ≔ 4)
   -- "a non-zero left or last child outside the visit's two numbers". From the path "these are the path block's up and
   -- the path block": of the open block 6 its up's last child, between 2 and 6
@@ -91,15 +96,26 @@ pub record WalkEdges : Type 0 where
   pub rows-3 : Sees (tree ▹ Slot 6 0 toWord ≔ 9 ▹ Slot 4 1 toWord ≔ 9 ▹ Slot 1 0 toWord ≔ 9 ▹ Slot 2 0 toWord ≔ 8)
   pub rows-4 : Unsound (tree ▹ Slot 6 0 toWord ≔ 9 ▹ Slot 4 1 toWord ≔ 9 ▹ Slot 1 0 toWord ≔ 9 ▹ Slot 2 0 toWord ≔ 9)
 
--- ---- 12: "a lower page with no entry up to t". With 17 blocks, 4,657 words, the top is the middle level, and block
--- 17 has a page of its own below it. With 257, 8,497 words, the top is the highest level, and block 257 has a page of
--- its own on both levels below. Where its entry is 5, a look-back at 5 passes, and one at 4 finds none.
+-- ---- 12: the pages of the index. In `many n` a look-back finds block n, which is listed alone and shows no row.
+abbrev pub Finds : List ℕ → ℕ → ℕ → List ℕ → ℕ → Type 0
+Finds ws t n pages read = step ws (asked t 2 n) .answer ≡ view [] (n ∷ []) pages read
+
 pub record PageEdges : Type 0 where
-  pub page-at : Passes (many 17 4657 ▹ Time 0 16 ≔ 5) (asked 5 2 17)
+  -- "The top level is the lowest that has all entries on one page": with 17 blocks the middle one, with 257 the
+  -- highest
+  pub blocks-16 : Finds (many 16 4641) 5 16 (0 ∷ OPEN ∷ OPEN ∷ []) 1
+  pub blocks-17 : Finds (many 17 4657) 5 17 (1 ∷ 0 ∷ OPEN ∷ []) 2
+  pub blocks-256 : Finds (many 256 8481) 5 256 (15 ∷ 0 ∷ OPEN ∷ []) 2
+  pub blocks-257 : Finds (many 257 8497) 5 257 (16 ∷ 1 ∷ 0 ∷ []) 3
+  -- "Entries beyond N are not entries": the third of the middle level is 0, and its page has none
+  pub blocks-32 : Finds (many 32 4897) 5 32 (1 ∷ 0 ∷ OPEN ∷ []) 2
+  -- "a lower page with no entry up to t": the page that has the last block's entry alone, which is 5; it is the lowest
+  -- of two levels, the lowest of three, the middle of three
+  pub page-at : Finds (many 17 4657 ▹ Time 0 16 ≔ 5) 5 17 (1 ∷ 0 ∷ OPEN ∷ []) 2
   pub page-before : Zeroes (many 17 4657 ▹ Time 0 16 ≔ 5) 4 2 17
-  pub low-at : Passes (many 257 8497 ▹ Time 0 256 ≔ 5) (asked 5 2 257)
+  pub low-at : Finds (many 257 8497 ▹ Time 0 256 ≔ 5) 5 257 (16 ∷ 1 ∷ 0 ∷ []) 3
   pub low-before : Zeroes (many 257 8497 ▹ Time 0 256 ≔ 5) 4 2 257
-  pub middle-at : Passes (many 257 8497 ▹ Time 1 16 ≔ 5) (asked 5 2 257)
+  pub middle-at : Finds (many 257 8497 ▹ Time 1 16 ≔ 5) 5 257 (16 ∷ 1 ∷ 0 ∷ []) 3
   pub middle-before : Zeroes (many 257 8497 ▹ Time 1 16 ≔ 5) 4 2 257
-  -- the top page may have none: the state is empty
-  pub top-before : Passes (many 17 4657 ▹ Time 1 0 ≔ 5 ▹ Time 1 1 ≔ 5) (asked 4 2 17)
+  -- the top page may have none: "the state is empty after 1 page and 0 blocks"
+  pub top-before : step (many 17 4657 ▹ Time 1 0 ≔ 5 ▹ Time 1 1 ≔ 5) (asked 4 2 17) .answer ≡ view [] [] (OPEN ∷ 0 ∷ OPEN ∷ []) 1

@@ -105,7 +105,7 @@ tag-block-edges = record {
 }
 
 acceptor-edges : AcceptorEdges
-unfolding three six bitAt withBit withoutBit bitsFrom slotsOf blockLen layoutLen inLimits headOf headWords badHead placed stands raised lowered readWord writeWord over badPlace badBlock unsoundSet unsoundClear blocksOut set clear update advance
+unfolding three wide six bitAt withBit withoutBit bitsFrom slotsOf blockLen layoutLen inLimits headOf headWords badHead placed stands raised lowered readWord writeWord over badPlace badBlock unsoundSet unsoundClear blocksOut set clear update advance
 acceptor-edges = record {
   sound = (refl, refl, refl);
   up-2 = (refl, refl, refl);
@@ -126,10 +126,14 @@ acceptor-edges = record {
   taken = refl;
   taken-alone = refl;
   taken-once = refl;
+  taken-high = refl;
+  taken-high-alone = refl;
   taken-two = refl;
   taken-two-alone = refl;
   own-three = refl;
   own-two = refl;
+  own-high-three = refl;
+  own-high-two = refl;
 }
 
 room-edges : RoomEdges
@@ -172,10 +176,13 @@ walk-edges : WalkEdges
 unfolding tree blockLen layoutLen inLimits headOf headWords badHead blockPart levelPart pagePart blockWord slotWord writeWord lastUpTo entries topLevel lookUp descend search rowOf rowsOf neighbour visit path look reader lookAt lookBack
 walk-edges = record {
   sound = refl;
+  tests-12 = refl;
+  tests-none = refl;
   up-6 = (refl, refl);
   up-5 = refl;
   last-up-2 = (refl, refl);
   last-up-1 = refl;
+  up-above = (refl, refl);
   visited-up = refl;
   neighbour-0 = refl;
   neighbour-2 = (refl, refl);
@@ -210,6 +217,11 @@ walk-edges = record {
 page-edges : PageEdges
 unfolding many blockLen layoutLen inLimits headOf headWords badHead blockPart levelPart pagePart blockWord slotWord writeWord lastUpTo entries topLevel lookUp descend search rowOf rowsOf neighbour visit path look reader lookAt lookBack
 page-edges = record {
+  blocks-16 = refl;
+  blocks-17 = refl;
+  blocks-256 = refl;
+  blocks-257 = refl;
+  blocks-32 = refl;
   page-at = refl;
   page-before = (refl, refl);
   low-at = refl;

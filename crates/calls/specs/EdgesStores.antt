@@ -111,10 +111,13 @@ brim = three ▹ Head headFill ≔ 5
 abbrev pub out : List ℕ
 out = brim ▹ Head headBlocks ≔ 3
 
--- b = 64, q = 1, B = D = 1: 33 records in block 1, of which the last, in slot 32, stands for tag 0
+-- b = 33, q = 2, B = D = 3, the clock at 9. Tags 0 and 1 stand in slots 0 and 1 of block 1; block 2, the acceptor, is
+-- full, and tag 2 stands in its last slot, 32, whose bit is the lowest of the high word.
 unfoldable pub wide : List ℕ
-wide = storeOf (settingsOf 64 1 1 1) (cursorOf 1 1 33 0 1) (1 ∷ []) (33 ∷ [])
-    (1 ∷ OPEN ∷ 0 ∷ 0 ∷ 0 ∷ 0 ∷ 0 ∷ 1 ∷ replicate 256 0)
+wide = storeOf (settingsOf 33 2 3 3) (cursorOf 2 9 33 0 1) (1 ∷ 2 ∷ []) (1 ∷ 2 ∷ 66 ∷ [])
+    ((1 ∷ OPEN ∷ 0 ∷ 0 ∷ 0 ∷ 2 ∷ 3 ∷ 0 ∷ 0 ∷ 10 ∷ 1 ∷ OPEN ∷ 1 ∷ 11 ∷ 1 ∷ OPEN ∷ replicate 124 0)
+    ++ (2 ∷ OPEN ∷ 1 ∷ 0 ∷ 0 ∷ 0 ∷ 0 ∷ 1 ∷ replicate 128 0)
+    ++ (2 ∷ 12 ∷ 2 ∷ OPEN ∷ replicate 140 0))
 
 -- b = 6, q = 3, B = 3, D = 4, the clock at 9. Tags 0, 1 and 2 stand in block 1; block 2, the acceptor, has four
 -- records, of which that in slot 2 stands, for tag 3.

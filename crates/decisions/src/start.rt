@@ -4,7 +4,8 @@ use layout::settings::Settings;
 use layout::settings::SettingsAnswer;
 ghost use mathlib.Core.Path.{_≡_};
 ghost use Rattle.calls.specs.Refusals.{startTests};
-ghost use Rattle.decisions.specs.Start.{settingsOf, startVerdict};
+ghost use Rattle.layout.specs.Settings.{settingsOf};
+ghost use Rattle.decisions.specs.Start.{startVerdict};
 
 // A start that may go on with these settings, or its refusal.
 pub enum StartVerdict {

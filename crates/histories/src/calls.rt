@@ -1,54 +1,95 @@
-// The register's calls on the first words of an array: a part of a given length is lent.
-use crate::book::ADVANCE;
-use crate::book::CLEAR;
-use crate::book::SET;
+// The register's calls, each on the first words of the store; what a look-back leaves goes into the notes.
+use crate::asked::CLEAR;
+use crate::asked::Change;
+use crate::asked::LookBack;
+use crate::asked::SET;
+use crate::asked::UPDATE;
+use crate::notes::ANSWER;
+use crate::notes::LIST;
+use crate::notes::Notes;
+use crate::notes::ROWS;
+use crate::notes::Store;
+use crate::notes::put;
 use crate::settings::Settings;
-use crate::words::WORDS;
-use crate::words::wide;
+use crate::words::mark;
+use crate::words::sum;
 
 // What no call answers: the program itself asked for more than it has.
 const NOT_ASKED: u32 = 99;
 
-fn start_on(
-    store: &mut [u32],
-    length: usize,
-    block: u32,
-    useful: u32,
-    blocks: u32,
-    tags: u32,
-) -> u32 {
-    if store.len() < length {
-        return NOT_ASKED;
-    }
-    register::register_start(&mut store[..length], block, useful, blocks, tags)
+fn wide(x: u32) -> usize {
+    x as usize
 }
 
-fn set_on(store: &mut [u32], length: usize, second: u32, tag: u32, reading: u32) -> u32 {
-    if store.len() < length {
-        return NOT_ASKED;
+fn start_on(store: &mut [u32], length: usize, s: Settings) -> u32 {
+    if length <= store.len() {
+        let lent = &mut store[0..length];
+        return register::register_start(lent, s.block, s.useful, s.blocks, s.tags);
     }
-    register::register_set(&mut store[..length], second, tag, reading)
+    NOT_ASKED
 }
 
-fn clear_on(store: &mut [u32], length: usize, second: u32, tag: u32) -> u32 {
-    if store.len() < length {
-        return NOT_ASKED;
-    }
-    register::register_clear(&mut store[..length], second, tag)
+pub fn start(store: &mut Store, length: u32, s: Settings) -> u32 {
+    start_on(store, wide(length), s)
 }
 
-fn update_on(store: &mut [u32], length: usize, second: u32, tag: u32, reading: u32) -> u32 {
-    if store.len() < length {
-        return NOT_ASKED;
+fn change_lent(lent: &mut [u32], c: Change) -> u32 {
+    if c.kind == SET {
+        return register::register_set(lent, c.second, c.tag, c.reading);
     }
-    register::register_update(&mut store[..length], second, tag, reading)
+    if c.kind == CLEAR {
+        return register::register_clear(lent, c.second, c.tag);
+    }
+    if c.kind == UPDATE {
+        return register::register_update(lent, c.second, c.tag, c.reading);
+    }
+    register::register_advance(lent, c.second)
 }
 
-fn advance_on(store: &mut [u32], length: usize, second: u32) -> u32 {
-    if store.len() < length {
-        return NOT_ASKED;
+fn change_on(store: &mut [u32], length: usize, c: Change) -> u32 {
+    if length <= store.len() {
+        let lent = &mut store[0..length];
+        return change_lent(lent, c);
     }
-    register::register_advance(&mut store[..length], second)
+    NOT_ASKED
+}
+
+pub fn change(store: &mut Store, c: Change) -> u32 {
+    change_on(store, wide(c.length), c)
+}
+
+// A buffer to lend from: longer than any that a look-back of ours gets.
+type Buffer = [u32; 640];
+
+// Words of a buffer beyond the lent ones that are noted too.
+pub const SPARE: u32 = 8;
+
+fn marked() -> Buffer {
+    let mut buffer = [0u32; 640];
+    for i in 0..640 {
+        buffer[i as usize] = mark(i);
+    }
+    buffer
+}
+
+// Notes the lent words of a buffer, and some more.
+fn note_buffer(notes: &mut Notes, part: u32, buffer: &Buffer, lent: u32) {
+    let end = sum(lent, SPARE);
+    for i in 0..end {
+        let at = wide(i);
+        if at < 640 {
+            put(notes, sum(part, i), buffer[at]);
+        }
+    }
+}
+
+fn note_answer(notes: &mut Notes, answer: &[u32; 6]) {
+    put(notes, ANSWER, answer[0]);
+    put(notes, ANSWER + 1, answer[1]);
+    put(notes, ANSWER + 2, answer[2]);
+    put(notes, ANSWER + 3, answer[3]);
+    put(notes, ANSWER + 4, answer[4]);
+    put(notes, ANSWER + 5, answer[5]);
 }
 
 fn look_back_on(
@@ -71,58 +112,31 @@ fn look_back_on(
         return NOT_ASKED;
     }
     register::register_look_back(
-        &store[..length],
+        &store[0..length],
         second,
-        &mut rows[..row_words],
-        &mut list[..list_words],
+        &mut rows[0..row_words],
+        &mut list[0..list_words],
         answer,
     )
 }
 
-pub fn start(store: &mut [u32; WORDS], length: u32, s: Settings) -> u32 {
-    start_on(store, wide(length), s.block, s.useful, s.blocks, s.tags)
-}
-
-// A set, a clear, a new reading or a clock move.
-pub fn change(
-    store: &mut [u32; WORDS],
-    length: u32,
-    kind: u32,
-    second: u32,
-    tag: u32,
-    reading: u32,
-) -> u32 {
-    let long = wide(length);
-    if kind == SET {
-        return set_on(store, long, second, tag, reading);
-    }
-    if kind == CLEAR {
-        return clear_on(store, long, second, tag);
-    }
-    if kind == ADVANCE {
-        return advance_on(store, long, second);
-    }
-    update_on(store, long, second, tag, reading)
-}
-
-pub fn look_back(
-    store: &[u32; WORDS],
-    length: u32,
-    second: u32,
-    rows: &mut [u32; WORDS],
-    row_words: u32,
-    list: &mut [u32; WORDS],
-    list_words: u32,
-    answer: &mut [u32; 6],
-) -> u32 {
-    look_back_on(
+// A look-back into buffers of marks; its answer's six words are marks too.
+pub fn look_back(store: &Store, notes: &mut Notes, a: LookBack) -> u32 {
+    let mut rows = marked();
+    let mut list = marked();
+    let mut answer = [mark(0), mark(1), mark(2), mark(3), mark(4), mark(5)];
+    let got = look_back_on(
         store,
-        wide(length),
-        second,
-        rows,
-        wide(row_words),
-        list,
-        wide(list_words),
-        answer,
-    )
+        wide(a.length),
+        a.second,
+        &mut rows,
+        wide(a.row_words),
+        &mut list,
+        wide(a.list_words),
+        &mut answer,
+    );
+    note_buffer(notes, ROWS, &rows, a.row_words);
+    note_buffer(notes, LIST, &list, a.list_words);
+    note_answer(notes, &answer);
+    got
 }

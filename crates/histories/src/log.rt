@@ -1,122 +1,127 @@
 // The plain log: the accepted changes of the present history in order, and beside them its settings and clock.
-// Words: the numbers named below; then from word 16 each change: kind, second, tag, reading.
-use crate::book::ADVANCE;
-use crate::book::CLEAR;
+// Words: the numbers named below; then from the log's word 16 on each change: kind, second, tag, reading.
+use crate::asked::ADVANCE;
+use crate::asked::CLEAR;
+use crate::asked::Change;
+use crate::notes::LOG;
+use crate::notes::Notes;
+use crate::notes::READINGS;
+use crate::notes::STANDING;
+use crate::notes::add;
+use crate::notes::fill;
+use crate::notes::get;
+use crate::notes::put;
 use crate::settings;
 use crate::settings::Settings;
-use crate::words::WORDS;
-use crate::words::add;
-use crate::words::fill;
-use crate::words::get;
 use crate::words::product;
-use crate::words::put;
 use crate::words::sum;
 
 // Accepted changes since the start.
-pub const CHANGES: u32 = 0;
+pub const CHANGES: u32 = LOG;
+
+// Accepted sets and new readings among them.
+pub const SETS: u32 = LOG + 1;
 
 // The second of the last accepted change or clock move.
-pub const CLOCK: u32 = 1;
+pub const CLOCK: u32 = LOG + 2;
+
+pub const BLOCK: u32 = LOG + 3;
+
+pub const USEFUL: u32 = LOG + 4;
+
+pub const BLOCKS: u32 = LOG + 5;
+
+pub const TAGS: u32 = LOG + 6;
 
 // 1 once a start was accepted.
-pub const STARTED: u32 = 2;
-
-pub const BLOCK: u32 = 3;
-
-pub const USEFUL: u32 = 4;
-
-pub const BLOCKS: u32 = 5;
-
-pub const TAGS: u32 = 6;
-
-// Accepted sets and new readings since the start.
-pub const SETS: u32 = 7;
+pub const STARTED: u32 = LOG + 7;
 
 // How many words of the store this history lends.
-pub const LENGTH: u32 = 8;
+pub const LENGTH: u32 = LOG + 8;
 
 // 1 if this history is to run near the last second.
-pub const LATE: u32 = 9;
+pub const LATE: u32 = LOG + 9;
 
 // 1 if this history is a long one.
-pub const LONG: u32 = 10;
+pub const LONG: u32 = LOG + 10;
 
-const FIRST: u32 = 16;
+const FIRST: u32 = LOG + 16;
 
-// In an array that tells a state: from here on the readings by tag. Before them stands 1 for each tag that stands.
-pub const READINGS: u32 = 4096;
+// Words beyond the lent ones that are compared too.
+const SPARE: u32 = 32;
 
-// In such an array too: room to mark tags and blocks as seen.
-pub const SEEN_TAGS: u32 = 8192;
-
-pub const SEEN_BLOCKS: u32 = 12288;
-
-pub fn current(log: &[u32; WORDS]) -> Settings {
+pub fn current(notes: &Notes) -> Settings {
     settings::of(
-        get(log, BLOCK),
-        get(log, USEFUL),
-        get(log, BLOCKS),
-        get(log, TAGS),
+        get(notes, BLOCK),
+        get(notes, USEFUL),
+        get(notes, BLOCKS),
+        get(notes, TAGS),
     )
 }
 
+// How many words of the store are compared: the lent ones and some more.
+pub fn extent(notes: &Notes) -> u32 {
+    sum(get(notes, LENGTH), SPARE)
+}
+
 // An empty log with these settings.
-pub fn begin(log: &mut [u32; WORDS], s: Settings) {
-    put(log, CHANGES, 0);
-    put(log, CLOCK, 0);
-    put(log, BLOCK, s.block);
-    put(log, USEFUL, s.useful);
-    put(log, BLOCKS, s.blocks);
-    put(log, TAGS, s.tags);
-    put(log, SETS, 0);
+pub fn begin(notes: &mut Notes, s: Settings) {
+    fill(notes, CHANGES, BLOCK, 0);
+    put(notes, BLOCK, s.block);
+    put(notes, USEFUL, s.useful);
+    put(notes, BLOCKS, s.blocks);
+    put(notes, TAGS, s.tags);
 }
 
 // Enters an accepted change; a clock move only moves the clock.
-pub fn enter(log: &mut [u32; WORDS], kind: u32, second: u32, tag: u32, reading: u32) {
-    put(log, CLOCK, second);
-    if kind == ADVANCE {
+pub fn enter(notes: &mut Notes, c: Change) {
+    put(notes, CLOCK, c.second);
+    if c.kind == ADVANCE {
         return;
     }
-    let i = sum(FIRST, product(4, get(log, CHANGES)));
-    put(log, i, kind);
-    put(log, sum(i, 1), second);
-    put(log, sum(i, 2), tag);
-    put(log, sum(i, 3), reading);
-    add(log, CHANGES, 1);
-    if kind != CLEAR {
-        add(log, SETS, 1);
+    let i = sum(FIRST, product(4, get(notes, CHANGES)));
+    put(notes, i, c.kind);
+    put(notes, sum(i, 1), c.second);
+    put(notes, sum(i, 2), c.tag);
+    put(notes, sum(i, 3), c.reading);
+    add(notes, CHANGES, 1);
+    if c.kind != CLEAR {
+        add(notes, SETS, 1);
     }
 }
 
-// Plays one change into a state, if it was made by t.
-fn play(log: &[u32; WORDS], change: u32, t: u32, state: &mut [u32; WORDS]) {
+// Plays one change into the state, if it was made by t.
+fn play(notes: &mut Notes, change: u32, t: u32) {
     let i = sum(FIRST, product(4, change));
-    if t < get(log, sum(i, 1)) {
+    if t < get(notes, sum(i, 1)) {
         return;
     }
-    let tag = get(log, sum(i, 2));
-    if get(log, i) == CLEAR {
-        put(state, tag, 0);
-    } else {
-        put(state, tag, 1);
-        put(state, sum(READINGS, tag), get(log, sum(i, 3)));
+    let tag = get(notes, sum(i, 2));
+    if get(notes, i) == CLEAR {
+        put(notes, sum(STANDING, tag), 0);
+        return;
     }
+    let reading = get(notes, sum(i, 3));
+    put(notes, sum(STANDING, tag), 1);
+    put(notes, sum(READINGS, tag), reading);
 }
 
 // The state at t: all changes made by t, played in order.
-pub fn state_at(log: &[u32; WORDS], t: u32, state: &mut [u32; WORDS]) {
-    fill(state, 0, get(log, TAGS), 0);
-    let last = get(log, CHANGES);
+pub fn state_at(notes: &mut Notes, t: u32) {
+    let tags = get(notes, TAGS);
+    fill(notes, STANDING, sum(STANDING, tags), 0);
+    let last = get(notes, CHANGES);
     for i in 0..last {
-        play(log, i, t, state);
+        play(notes, i, t);
     }
 }
 
-// How many tags stand in a state.
-pub fn standing(state: &[u32; WORDS], tags: u32) -> u32 {
+// How many tags stand in that state.
+pub fn standing(notes: &Notes) -> u32 {
+    let tags = get(notes, TAGS);
     let mut found: u32 = 0;
-    for i in 0..tags {
-        found = sum(found, get(state, i));
+    for tag in 0..tags {
+        found = sum(found, get(notes, sum(STANDING, tag)));
     }
     found
 }

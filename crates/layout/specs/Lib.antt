@@ -21,3 +21,4 @@ pub mod HeadLaws
 pub mod StandingLaws
 pub mod OverLaws
 pub mod Able
+pub mod Moved

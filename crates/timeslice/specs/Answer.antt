@@ -8,14 +8,14 @@ use lib.ListN.{getD}
 use Rattle.layout.specs.declared.head.Head.{Head}
 use Rattle.layout.specs.Sizes.{OPEN, rowLen, layoutLen}
 use Rattle.calls.specs.Calls.{Row, View, Answer, Shown, Refused as RefusedBy}
-use Rattle.calls.specs.Walk.{Pass, Looked as Walked, unsoundly, looked}
+use Rattle.calls.specs.Walk.{Pass, Looked as LookedAt, unsoundly, looked}
 use Rattle.calls.specs.Refusals.{Test, isOpen}
 use Rattle.calls.specs.LookBack.{lookBack, lookAt, seen, viewOf, rowWords, written}
 use Rattle.timeslice.specs.declared.Slice.{Slice}
 use Rattle.timeslice.specs.declared.Looked.{Looked}
 use Rattle.timeslice.specs.declared.Looked.the-variants.{Answered, Refused}
-use Rattle.timeslice.specs.declared.Seen.{Seen}
-use Rattle.timeslice.specs.declared.Seen.the-variants.{Whole, Unsound}
+use Rattle.timeslice.specs.declared.Sliced.{Sliced}
+use Rattle.timeslice.specs.declared.Sliced.the-variants.{Whole, Unsound}
 
 -- a view's three numbers, and its page on each of the three levels
 abbrev pub sliceOf : View → Slice
@@ -39,10 +39,10 @@ pub record LookedBack (ws : List ℕ) (t : ℕ) (rows list : List ℕ) (r : Look
 
 -- ---- the parts
 -- what the walk over the words says: its rows and list at the start of the buffers, or that it is unsound, the buffers being anything
-pub data Sees (w : Walked) (rows list : List ℕ) : Seen → List ℕ → List ℕ → Type 0 where
+pub data Slices (w : LookedAt) (rows list : List ℕ) : Sliced → List ℕ → List ℕ → Type 0 where
   whole : {r : List Row} {l : List ℕ} {ps : List Pass} {s : Slice} {rows′ list′ : List ℕ} → w ≡ looked r l ps → s ≡ sliceOf (viewOf r l ps)
-      → rows′ ≡ written (rowWords r) rows → list′ ≡ written l list → Sees w rows list (Whole s) rows′ list′
-  broken : {rows′ list′ : List ℕ} → w ≡ unsoundly → Sees w rows list Unsound rows′ list′
+      → rows′ ≡ written (rowWords r) rows → list′ ≡ written l list → Slices w rows list (Whole s) rows′ list′
+  broken : {rows′ list′ : List ℕ} → w ≡ unsoundly → Slices w rows list Unsound rows′ list′
 
 -- a look-back to which no refusal but 12 applies
 pub record Answers (ws : List ℕ) (t : ℕ) (rows list : List ℕ) (r : Looked) (rows′ list′ : List ℕ) : Type 0 where

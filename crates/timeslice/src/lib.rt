@@ -16,7 +16,7 @@ ghost use Rattle.layout.specs.HeadLaws.{HeadRead};
 ghost use Rattle.calls.specs.Refusals.{refusal as refusalOf};
 ghost use Rattle.calls.specs.LookBack.{lookAt, zeros};
 ghost use Rattle.timeslice.specs.Told.{Readable, Buffers};
-ghost use Rattle.timeslice.specs.Answer.{LookedBack, Sees, Answers, ownTests};
+ghost use Rattle.timeslice.specs.Answer.{LookedBack, Slices, Answers, ownTests};
 
 // Rows given, pages read and blocks listed.
 pub struct Counts {
@@ -38,8 +38,8 @@ pub enum Looked {
     Refused(u32),
 }
 
-// What the walk comes to.
-pub enum Seen {
+// What search and path come to: a slice, with its rows and its list in the two buffers; or a word of the store is unsound.
+pub enum Sliced {
     Whole(Slice),
     Unsound,
 }
@@ -79,13 +79,13 @@ fn zero(buffer: &mut [u32])
 }
 
 // Search, then the path from the block found.
-fn look(store: &[u32], h: Head, second: u32, rows: &mut [u32], list: &mut [u32]) -> Seen
+fn look(store: &[u32], h: Head, second: u32, rows: &mut [u32], list: &mut [u32]) -> Sliced
     requires { ⌜ Readable (now store) h ⌝ }
     requires { ⌜ Buffers (h .settings) (now rows) (now list) ⌝ }
-    ensures { λ r. ⌜ Sees (lookAt (now (store .entry)) second) (now (rows .entry)) (now (list .entry)) r (now (rows .exit)) (now (list .exit)) ⌝ }
+    ensures { λ r. ⌜ Slices (lookAt (now (store .entry)) second) (now (rows .entry)) (now (list .entry)) r (now (rows .exit)) (now (list .exit)) ⌝ }
 {
     let Searched::At(found) = index::search(store, h, second) else {
-        return Seen::Unsound;
+        return Sliced::Unsound;
     };
     let none = Counts {
         rows: 0,
@@ -93,9 +93,9 @@ fn look(store: &[u32], h: Head, second: u32, rows: &mut [u32], list: &mut [u32])
         blocks: 0,
     };
     let Walked::Done(counts) = walk::path(store, h, found.block, second, rows, list, none) else {
-        return Seen::Unsound;
+        return Sliced::Unsound;
     };
-    Seen::Whole(Slice {
+    Sliced::Whole(Slice {
         counts,
         page0: found.page0,
         page1: found.page1,
@@ -110,8 +110,8 @@ fn answer(store: &[u32], h: Head, second: u32, rows: &mut [u32], list: &mut [u32
     ensures { λ r. ⌜ Answers (now (store .entry)) second (now (rows .entry)) (now (list .entry)) r (now (rows .exit)) (now (list .exit)) ⌝ }
 {
     match look(store, h, second, rows, list) {
-        Seen::Whole(slice) => Looked::Answered(slice),
-        Seen::Unsound => {
+        Sliced::Whole(slice) => Looked::Answered(slice),
+        Sliced::Unsound => {
             zero(rows);
             zero(list);
             Looked::Refused(refusal::UNSOUND)
