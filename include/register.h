@@ -51,9 +51,9 @@
  * store, look-backs may run side by side, each with buffers of its own, as long as nothing writes the store; a start, a
  * change, a clock move or a replay must have it alone.
  *
- * RESULTS. 0 if the call was accepted, else the number of the first refusal that applies (enum register_result). A
- * refused call leaves all words as they were, except that refusal 12 of a look-back fills rows and list, whole, with
- * zeros. There is no other error: every call ends, and answers for all arguments. */
+ * RESULTS. A change or look-back gives 0 if it was accepted, else the number of the first refusal that applies (enum
+ * register_result). A refused call leaves all words as they were, except that refusal 12 of a look-back fills rows and
+ * list, whole, with zeros. There is no other error: every call ends, and answers for all arguments. */
 #ifndef REGISTER_H
 #define REGISTER_H
 
@@ -208,11 +208,12 @@ enum register_entry {
     REGISTER_ENTRY_WORDS = 6
 };
 
-/* Makes the calls of a journal, one after another, on a store of any contents; a refused one changes nothing. answer
- * gets the number of entries read, which is less than the journal has if an unknown kind ended it, and of those
- * accepted. Returns 0. */
-uint32_t register_replay(uint32_t *store, size_t words, const uint32_t *journal, size_t journal_words,
-                         uint32_t answer[2]);
+/* Makes the calls of a journal, one after another, on a store of any contents; a refused one changes nothing. answer[0]
+ * gets the number of entries read, which is less than the journal has if an unknown kind ended it, answer[1] the number
+ * of those that were accepted. Both are 64 bits wide, since a journal may have more entries than 32 bits count. There
+ * is no refusal: a journal of refused calls is read to its end, and leaves the store as it was.
+ * examples/mapped.c shows how a journal is kept so that no acknowledged change is lost. */
+void register_replay(uint32_t *store, size_t words, const uint32_t *journal, size_t journal_words, uint64_t answer[2]);
 
 #ifdef __cplusplus
 }

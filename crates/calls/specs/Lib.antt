@@ -9,11 +9,4 @@ pub mod Log
 pub mod History
 pub mod Table
 pub mod TableProof
-pub mod EdgesStores
-pub mod EdgesHead
-pub mod EdgesChange
-pub mod EdgesLookBack
-pub mod Edges
-pub mod EdgesHeadProof
-pub mod EdgesProof
 pub mod Claims

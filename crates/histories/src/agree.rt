@@ -1,4 +1,5 @@
-// After an accepted change: the store against the book and the log. Each function answers 0, or the number of what does not agree.
+// After an accepted start or change: the store against the book and the log. A function answers 0 where they agree, else the number of what
+// does not, or (head, seconds) the bits that differ.
 use crate::book;
 use crate::log;
 use crate::notes::Notes;
@@ -25,40 +26,29 @@ const SLOT: u32 = 8;
 
 const DIRECTORY: u32 = 9;
 
-// Mark and settings.
-fn head_settings(store: &Store, s: Settings) -> u32 {
-    if word(store, 0) != 7001 {
-        return HEAD;
-    }
-    if word(store, 1) != s.block {
-        return HEAD;
-    }
-    if word(store, 2) != s.useful {
-        return HEAD;
-    }
-    if word(store, 3) != s.blocks {
-        return HEAD;
-    }
-    if word(store, 4) != s.tags {
-        return HEAD;
-    }
-    0
+// Mark and settings, N, the clock and the six zeros: all that differs.
+fn head(store: &Store, notes: &Notes, s: Settings) -> u32 {
+    (word(store, 0) ^ 7001)
+        | head_settings(store, s)
+        | (word(store, 5) ^ get(notes, book::BLOCKS))
+        | (word(store, 6) ^ get(notes, log::CLOCK))
+        | zeros(store)
 }
 
-// N, the clock and the six zeros.
-fn head_numbers(store: &Store, notes: &Notes) -> u32 {
-    if word(store, 5) != get(notes, book::BLOCKS) {
-        return HEAD;
-    }
-    if word(store, 6) != get(notes, log::CLOCK) {
-        return HEAD;
-    }
-    let low = word(store, 10) | word(store, 11) | word(store, 12);
-    let high = word(store, 13) | word(store, 14) | word(store, 15);
-    if low | high != 0 {
-        return HEAD;
-    }
-    0
+fn head_settings(store: &Store, s: Settings) -> u32 {
+    (word(store, 1) ^ s.block)
+        | (word(store, 2) ^ s.useful)
+        | (word(store, 3) ^ s.blocks)
+        | (word(store, 4) ^ s.tags)
+}
+
+fn zeros(store: &Store) -> u32 {
+    word(store, 10)
+        | word(store, 11)
+        | word(store, 12)
+        | word(store, 13)
+        | word(store, 14)
+        | word(store, 15)
 }
 
 // "records placed, 0 for N = 0 and else (N − 1) × b + fill"
@@ -83,15 +73,10 @@ fn placed(store: &Store, notes: &Notes, s: Settings) -> u32 {
     0
 }
 
-// A block's opened and closed word are the book's seconds.
+// A block's opened and closed word against the book's seconds: all that differs.
 fn seconds(store: &Store, notes: &Notes, s: Settings, n: u32) -> u32 {
-    if word(store, settings::block_word(s, n, 0)) != book::word(notes, n, book::OPENED) {
-        return SECONDS;
-    }
-    if word(store, settings::block_word(s, n, 1)) != book::word(notes, n, book::CLOSED) {
-        return SECONDS;
-    }
-    0
+    (word(store, settings::block_word(s, n, 0)) ^ book::word(notes, n, book::OPENED))
+        | (word(store, settings::block_word(s, n, 1)) ^ book::word(notes, n, book::CLOSED))
 }
 
 // The record at a place that stands: it has no end, and the directory has its place.
@@ -112,9 +97,8 @@ fn slot(store: &Store, notes: &Notes, s: Settings, place: u32) -> u32 {
     let n = book::block_of(notes, place);
     let k = book::slot_of(notes, place);
     if k == 0 {
-        let found = seconds(store, notes, s, n);
-        if found != 0 {
-            return found;
+        if seconds(store, notes, s, n) != 0 {
+            return SECONDS;
         }
     }
     let low = word(store, settings::block_word(s, n, 6));
@@ -163,15 +147,10 @@ fn directory(store: &Store, notes: &Notes, s: Settings) -> u32 {
 // The whole store against book and log.
 pub fn store_agrees(store: &Store, notes: &Notes) -> u32 {
     let s = log::current(notes);
-    let mut found = head_settings(store, s);
-    if found != 0 {
-        return found;
+    if head(store, notes, s) != 0 {
+        return HEAD;
     }
-    found = head_numbers(store, notes);
-    if found != 0 {
-        return found;
-    }
-    found = placed(store, notes, s);
+    let mut found = placed(store, notes, s);
     if found != 0 {
         return found;
     }

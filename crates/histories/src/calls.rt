@@ -1,4 +1,5 @@
-// The register's calls, each on the first words of the store; what a look-back leaves goes into the notes.
+// The register's calls, each on the first words of the store: as many as are asked for, or all that there are. What a look-back leaves goes
+// into the notes.
 use crate::asked::CLEAR;
 use crate::asked::Change;
 use crate::asked::LookBack;
@@ -9,30 +10,33 @@ use crate::notes::LIST;
 use crate::notes::Notes;
 use crate::notes::ROWS;
 use crate::notes::Store;
-use crate::notes::put;
+use crate::notes::put_at;
 use crate::settings::Settings;
+use crate::words::MARK;
 use crate::words::mark;
 use crate::words::sum;
-
-// What no call answers: the program itself asked for more than it has.
-const NOT_ASKED: u32 = 99;
+ghost use Prim.Native.Nat.{_≤_};
 
 fn wide(x: u32) -> usize {
     x as usize
 }
 
+fn least(x: usize, y: usize) -> usize
+    ensures { λ r. ⌜ r ≤ y ⌝ }
+{
+    if x <= y { x } else { y }
+}
+
 fn start_on(store: &mut [u32], length: usize, s: Settings) -> u32 {
-    if length <= store.len() {
-        let lent = &mut store[0..length];
-        return register::register_start(lent, s.block, s.useful, s.blocks, s.tags);
-    }
-    NOT_ASKED
+    let end = least(length, store.len());
+    register::register_start(&mut store[0..end], s.block, s.useful, s.blocks, s.tags)
 }
 
 pub fn start(store: &mut Store, length: u32, s: Settings) -> u32 {
     start_on(store, wide(length), s)
 }
 
+// The lent words are cut already.
 fn change_lent(lent: &mut [u32], c: Change) -> u32 {
     if c.kind == SET {
         return register::register_set(lent, c.second, c.tag, c.reading);
@@ -47,11 +51,8 @@ fn change_lent(lent: &mut [u32], c: Change) -> u32 {
 }
 
 fn change_on(store: &mut [u32], length: usize, c: Change) -> u32 {
-    if length <= store.len() {
-        let lent = &mut store[0..length];
-        return change_lent(lent, c);
-    }
-    NOT_ASKED
+    let end = least(length, store.len());
+    change_lent(&mut store[0..end], c)
 }
 
 pub fn change(store: &mut Store, c: Change) -> u32 {
@@ -64,6 +65,7 @@ type Buffer = [u32; 640];
 // Words of a buffer beyond the lent ones that are noted too.
 pub const SPARE: u32 = 8;
 
+// A buffer of marks.
 fn marked() -> Buffer {
     let mut buffer = [0u32; 640];
     for i in 0..640 {
@@ -78,18 +80,15 @@ fn note_buffer(notes: &mut Notes, part: u32, buffer: &Buffer, lent: u32) {
     for i in 0..end {
         let at = wide(i);
         if at < 640 {
-            put(notes, sum(part, i), buffer[at]);
+            put_at(notes, part, i, buffer[at]);
         }
     }
 }
 
 fn note_answer(notes: &mut Notes, answer: &[u32; 6]) {
-    put(notes, ANSWER, answer[0]);
-    put(notes, ANSWER + 1, answer[1]);
-    put(notes, ANSWER + 2, answer[2]);
-    put(notes, ANSWER + 3, answer[3]);
-    put(notes, ANSWER + 4, answer[4]);
-    put(notes, ANSWER + 5, answer[5]);
+    for i in 0..6 {
+        put_at(notes, ANSWER, i, answer[i as usize]);
+    }
 }
 
 fn look_back_on(
@@ -102,20 +101,14 @@ fn look_back_on(
     list_words: usize,
     answer: &mut [u32; 6],
 ) -> u32 {
-    if store.len() < length {
-        return NOT_ASKED;
-    }
-    if rows.len() < row_words {
-        return NOT_ASKED;
-    }
-    if list.len() < list_words {
-        return NOT_ASKED;
-    }
+    let store_end = least(length, store.len());
+    let row_end = least(row_words, rows.len());
+    let list_end = least(list_words, list.len());
     register::register_look_back(
-        &store[0..length],
+        &store[0..store_end],
         second,
-        &mut rows[0..row_words],
-        &mut list[0..list_words],
+        &mut rows[0..row_end],
+        &mut list[0..list_end],
         answer,
     )
 }
@@ -124,7 +117,7 @@ fn look_back_on(
 pub fn look_back(store: &Store, notes: &mut Notes, a: LookBack) -> u32 {
     let mut rows = marked();
     let mut list = marked();
-    let mut answer = [mark(0), mark(1), mark(2), mark(3), mark(4), mark(5)];
+    let mut answer = [MARK, MARK + 1, MARK + 2, MARK + 3, MARK + 4, MARK + 5];
     let got = look_back_on(
         store,
         wide(a.length),

@@ -17,8 +17,9 @@ use crate::notes::HONEST;
 use crate::notes::KEPT;
 use crate::notes::Notes;
 use crate::notes::Store;
+use crate::notes::at;
 use crate::notes::get;
-use crate::notes::put;
+use crate::notes::put_at;
 use crate::random::below;
 use crate::random::once_in;
 use crate::random::word;
@@ -88,13 +89,13 @@ fn damaging_word(notes: &mut Notes, s: Settings, n: u32, clock: u32) -> u32 {
 // Overwrites one to six of the kept words, mostly such as calls go by.
 fn overwrite(notes: &mut Notes) {
     let s = log::current(notes);
-    let n = get(notes, sum(KEPT, BLOCKS_WORD));
-    let clock = get(notes, sum(KEPT, CLOCK_WORD));
+    let n = at(notes, KEPT, BLOCKS_WORD);
+    let clock = at(notes, KEPT, CLOCK_WORD);
     let times = sum(below(notes, 6), 1);
-    for i in 0..times {
-        let at = damaged_word(notes, s, n);
+    for k in 0..times {
+        let i = damaged_word(notes, s, n);
         let word = damaging_word(notes, s, n, clock);
-        put(notes, sum(KEPT, at), word);
+        put_at(notes, KEPT, i, word);
     }
 }
 
@@ -108,7 +109,7 @@ fn damage(store: &mut Store, notes: &mut Notes) {
 
 // The second of a call on a damaged store: its clock word or one near it, sometimes any.
 fn second(notes: &mut Notes) -> u32 {
-    let clock = get(notes, sum(KEPT, CLOCK_WORD));
+    let clock = at(notes, KEPT, CLOCK_WORD);
     let r = below(notes, 10);
     if r == 0 {
         return word(notes);
@@ -161,10 +162,10 @@ fn first_left(notes: &Notes, got: u32) -> u32 {
         return 0;
     }
     settings::layout(settings::of(
-        get(notes, sum(KEPT, 1)),
-        get(notes, sum(KEPT, 2)),
-        get(notes, sum(KEPT, 3)),
-        get(notes, sum(KEPT, 4)),
+        at(notes, KEPT, 1),
+        at(notes, KEPT, 2),
+        at(notes, KEPT, 3),
+        at(notes, KEPT, 4),
     ))
 }
 

@@ -1,10 +1,8 @@
 // Random arguments: mostly sensible, sometimes such as a refusal is for.
 use crate::asked::Change;
 use crate::asked::LookBack;
-use crate::asked::SET;
 use crate::log;
 use crate::notes::Notes;
-use crate::notes::STANDING;
 use crate::notes::get;
 use crate::random::below;
 use crate::random::once_in;
@@ -27,27 +25,27 @@ pub fn length(notes: &mut Notes) -> u32 {
         0 => 0,
         1 => 15,
         2 => 16,
-        3 => less(settings::layout(log::current(notes)), 1),
+        3 => less(log::layout(notes), 1),
         _ => get(notes, log::LENGTH),
     }
 }
 
-// A second from the clock on, sometimes before it, sometimes OPEN; past the last second it is OPEN too.
+// The clock moved on; past the last second it is OPEN.
+fn later(clock: u32, seconds: u32) -> u32 {
+    let second = sum(clock, seconds);
+    if second < clock { OPEN } else { second }
+}
+
+// A second from the clock on, sometimes before it, sometimes OPEN.
 fn from_clock(notes: &mut Notes, clock: u32) -> u32 {
     let r = below(notes, 40);
-    if r == 0 {
-        return OPEN;
+    match r {
+        0 => OPEN,
+        1 => less(clock, sum(below(notes, 5), 1)),
+        2..=19 => clock,
+        20..=35 => later(clock, 1),
+        _ => later(clock, below(notes, 20)),
     }
-    if r == 1 {
-        let back = sum(below(notes, 5), 1);
-        return less(clock, back);
-    }
-    if r < 20 {
-        return clock;
-    }
-    let on = if r < 36 { 1 } else { below(notes, 20) };
-    let second = sum(clock, on);
-    if second < clock { OPEN } else { second }
 }
 
 // The second of a change; the first of a late history is late.
@@ -65,27 +63,21 @@ fn second(notes: &mut Notes) -> u32 {
 pub fn past(notes: &mut Notes) -> u32 {
     let clock = get(notes, log::CLOCK);
     let r = below(notes, 24);
-    if r == 0 {
-        return OPEN;
+    match r {
+        0 => OPEN,
+        1 => sum(clock, 1),
+        2..=4 => clock,
+        5..=11 => less(clock, below(notes, 90)),
+        _ => below(notes, sum(clock, 1)),
     }
-    if r == 1 {
-        return sum(clock, 1);
-    }
-    if r < 5 {
-        return clock;
-    }
-    if r < 12 {
-        return less(clock, below(notes, 90));
-    }
-    below(notes, sum(clock, 1))
 }
 
-// From a tag on, round the end, the first that stands (wanted 1) or does not (wanted 0); the tag itself if there is none.
-fn next_tag(notes: &Notes, first: u32, wanted: u32) -> u32 {
+// From a tag on, round the end, the first that fits the kind of change; the tag itself if there is none.
+fn next_tag(notes: &Notes, kind: u32, first: u32) -> u32 {
     let tags = get(notes, log::TAGS);
     for i in 0..tags {
         let tag = rest(sum(first, i), tags);
-        if get(notes, sum(STANDING, tag)) == wanted {
+        if log::fits(notes, kind, tag) {
             return tag;
         }
     }
@@ -103,23 +95,17 @@ fn tag(notes: &mut Notes, kind: u32) -> u32 {
         return first;
     }
     log::state_at(notes, get(notes, log::CLOCK));
-    if kind == SET {
-        next_tag(notes, first, 0)
-    } else {
-        next_tag(notes, first, 1)
-    }
+    next_tag(notes, kind, first)
 }
 
 // Length of a lent buffer: enough, to spare, or one too few.
 fn buffer(notes: &mut Notes, enough: u32) -> u32 {
     let r = below(notes, 20);
-    if r == 0 {
-        return less(enough, 1);
+    match r {
+        0 => less(enough, 1),
+        1..=4 => sum(enough, r),
+        _ => enough,
     }
-    if r < 5 {
-        return sum(enough, r);
-    }
-    enough
 }
 
 // Settings for a start within a history: listed ones, or now and then bad ones; in a long history bad ones only, so that it goes on.

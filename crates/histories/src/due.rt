@@ -6,14 +6,12 @@ use crate::asked::SET;
 use crate::book;
 use crate::log;
 use crate::notes::Notes;
-use crate::notes::STANDING;
 use crate::notes::get;
 use crate::refusal;
 use crate::settings;
 use crate::settings::Settings;
 use crate::words::OPEN;
 use crate::words::product;
-use crate::words::sum;
 
 const HEAD_WORDS: u32 = 16;
 
@@ -38,7 +36,7 @@ fn on_store(notes: &Notes, length: u32, second: u32) -> u32 {
     if get(notes, log::STARTED) == 0 {
         return refusal::HEAD;
     }
-    if length < settings::layout(log::current(notes)) {
+    if length < log::layout(notes) {
         return refusal::SHORT_STORE;
     }
     if second == OPEN {
@@ -53,11 +51,14 @@ fn of_tag(notes: &mut Notes, c: Change) -> u32 {
         return refusal::TAG;
     }
     log::state_at(notes, c.second);
-    let stands = get(notes, sum(STANDING, c.tag));
-    if c.kind == SET {
-        return if stands == 1 { refusal::STANDS } else { 0 };
+    if log::fits(notes, c.kind, c.tag) {
+        return 0;
     }
-    if stands == 0 { refusal::ABSENT } else { 0 }
+    if c.kind == SET {
+        refusal::STANDS
+    } else {
+        refusal::ABSENT
+    }
 }
 
 // Where nothing is due, the book has the change.

@@ -19,6 +19,7 @@ use crate::notes::Store;
 use crate::notes::add;
 use crate::notes::get;
 use crate::notes::put;
+use crate::notes::put_at;
 use crate::random::below;
 use crate::random::once_in;
 use crate::settings;
@@ -46,8 +47,8 @@ pub fn left(store: &Store, notes: &mut Notes, first: u32, what: u32) {
 
 // A start leaves zeros after the settings, and keeps what lies beyond the layout.
 pub fn left_by_start(store: &Store, notes: &mut Notes, what: u32) {
-    let end = settings::layout(log::current(notes));
-    notes::fill(notes, sum(KEPT, AFTER_SETTINGS), sum(KEPT, end), 0);
+    let end = log::layout(notes);
+    notes::fill(notes, KEPT + AFTER_SETTINGS, sum(KEPT, end), 0);
     left(store, notes, AFTER_SETTINGS, what);
 }
 
@@ -91,7 +92,7 @@ fn change_turn(store: &mut Store, notes: &mut Notes, kind: u32) {
     }
     log::enter(notes, c);
     tally::note(notes, agree::store_agrees(store, notes));
-    left(store, notes, settings::layout(log::current(notes)), BEYOND);
+    left(store, notes, log::layout(notes), BEYOND);
     add(notes, tally::ACCEPTED, 1);
 }
 
@@ -159,7 +160,7 @@ fn turns(store: &mut Store, notes: &mut Notes, calls: u32) {
 fn mark_store(store: &mut Store, notes: &mut Notes) {
     let end = log::extent(notes);
     for i in 0..end {
-        put(notes, sum(KEPT, i), mark(i));
+        put_at(notes, KEPT, i, mark(i));
     }
     notes::restore(store, notes, end);
 }

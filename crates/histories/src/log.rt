@@ -1,16 +1,18 @@
 // The plain log: the accepted changes of the present history in order, and beside them its settings and clock.
-// Words: the numbers named below; then from the log's word 16 on each change: kind, second, tag, reading.
+// Words: the numbers named below, then four for each change. The state at a second is what the log comes to, played up to it.
 use crate::asked::ADVANCE;
 use crate::asked::CLEAR;
 use crate::asked::Change;
+use crate::asked::SET;
 use crate::notes::LOG;
 use crate::notes::Notes;
-use crate::notes::READINGS;
-use crate::notes::STANDING;
+use crate::notes::STATE;
 use crate::notes::add;
+use crate::notes::at;
 use crate::notes::fill;
 use crate::notes::get;
 use crate::notes::put;
+use crate::notes::put_at;
 use crate::settings;
 use crate::settings::Settings;
 use crate::words::product;
@@ -45,7 +47,16 @@ pub const LATE: u32 = LOG + 9;
 // 1 if this history is a long one.
 pub const LONG: u32 = LOG + 10;
 
-const FIRST: u32 = LOG + 16;
+// Change i, from 1, has its four words 4 × i after this one.
+const BEFORE: u32 = LOG + 12;
+
+const KIND: u32 = 0;
+
+const SECOND: u32 = 1;
+
+const TAG: u32 = 2;
+
+const READING: u32 = 3;
 
 // Words beyond the lent ones that are compared too.
 const SPARE: u32 = 32;
@@ -57,6 +68,11 @@ pub fn current(notes: &Notes) -> Settings {
         get(notes, BLOCKS),
         get(notes, TAGS),
     )
+}
+
+// How many words a store with these settings has.
+pub fn layout(notes: &Notes) -> u32 {
+    settings::layout(current(notes))
 }
 
 // How many words of the store are compared: the lent ones and some more.
@@ -73,55 +89,80 @@ pub fn begin(notes: &mut Notes, s: Settings) {
     put(notes, TAGS, s.tags);
 }
 
+// Word j of change i, i from 1.
+fn word(notes: &Notes, i: u32, j: u32) -> u32 {
+    at(notes, sum(BEFORE, product(4, i)), j)
+}
+
 // Enters an accepted change; a clock move only moves the clock.
 pub fn enter(notes: &mut Notes, c: Change) {
     put(notes, CLOCK, c.second);
-    if c.kind == ADVANCE {
-        return;
-    }
-    let i = sum(FIRST, product(4, get(notes, CHANGES)));
-    put(notes, i, c.kind);
-    put(notes, sum(i, 1), c.second);
-    put(notes, sum(i, 2), c.tag);
-    put(notes, sum(i, 3), c.reading);
-    add(notes, CHANGES, 1);
-    if c.kind != CLEAR {
-        add(notes, SETS, 1);
+    if c.kind != ADVANCE {
+        add(notes, CHANGES, 1);
+        let i = sum(BEFORE, product(4, get(notes, CHANGES)));
+        write(notes, i, c);
+        let sets = if c.kind == CLEAR { 0 } else { 1 };
+        add(notes, SETS, sets);
     }
 }
 
-// Plays one change into the state, if it was made by t.
-fn play(notes: &mut Notes, change: u32, t: u32) {
-    let i = sum(FIRST, product(4, change));
-    if t < get(notes, sum(i, 1)) {
-        return;
+fn write(notes: &mut Notes, i: u32, c: Change) {
+    put_at(notes, i, KIND, c.kind);
+    put_at(notes, i, SECOND, c.second);
+    put_at(notes, i, TAG, c.tag);
+    put_at(notes, i, READING, c.reading);
+}
+
+// What the state has for the tag of change i once this is played: its number, or 0 after a clear.
+fn left_by(notes: &Notes, i: u32) -> u32 {
+    if word(notes, i, KIND) == CLEAR { 0 } else { i }
+}
+
+// Plays change i into the state, if it was made by t.
+fn play(notes: &mut Notes, i: u32, t: u32) {
+    if word(notes, i, SECOND) <= t {
+        let tag = word(notes, i, TAG);
+        let left = left_by(notes, i);
+        put_at(notes, STATE, tag, left);
     }
-    let tag = get(notes, sum(i, 2));
-    if get(notes, i) == CLEAR {
-        put(notes, sum(STANDING, tag), 0);
-        return;
-    }
-    let reading = get(notes, sum(i, 3));
-    put(notes, sum(STANDING, tag), 1);
-    put(notes, sum(READINGS, tag), reading);
 }
 
 // The state at t: all changes made by t, played in order.
 pub fn state_at(notes: &mut Notes, t: u32) {
-    let tags = get(notes, TAGS);
-    fill(notes, STANDING, sum(STANDING, tags), 0);
+    let end = sum(STATE, get(notes, TAGS));
+    fill(notes, STATE, end, 0);
     let last = get(notes, CHANGES);
     for i in 0..last {
-        play(notes, i, t);
+        play(notes, sum(i, 1), t);
     }
 }
 
-// How many tags stand in that state.
+// In that state:
+pub fn stands(notes: &Notes, tag: u32) -> bool {
+    at(notes, STATE, tag) != 0
+}
+
+// The reading of a tag that stands.
+pub fn reading(notes: &Notes, tag: u32) -> u32 {
+    word(notes, at(notes, STATE, tag), READING)
+}
+
+// How many tags stand.
 pub fn standing(notes: &Notes) -> u32 {
     let tags = get(notes, TAGS);
     let mut found: u32 = 0;
     for tag in 0..tags {
-        found = sum(found, get(notes, sum(STANDING, tag)));
+        if stands(notes, tag) {
+            found = sum(found, 1);
+        }
     }
     found
+}
+
+// The tag can have a change of this kind: a set if it does not stand, any other if it stands.
+pub fn fits(notes: &Notes, kind: u32, tag: u32) -> bool {
+    if kind == SET {
+        return !stands(notes, tag);
+    }
+    stands(notes, tag)
 }

@@ -6,13 +6,14 @@ use crate::log;
 use crate::notes::ANSWER;
 use crate::notes::LIST;
 use crate::notes::NAMED;
+use crate::notes::NAMED_END;
 use crate::notes::Notes;
-use crate::notes::READINGS;
 use crate::notes::ROWS;
-use crate::notes::STANDING;
+use crate::notes::STATE;
+use crate::notes::at;
 use crate::notes::fill;
 use crate::notes::get;
-use crate::notes::put;
+use crate::notes::put_at;
 use crate::refusal::UNSOUND;
 use crate::words::OPEN;
 use crate::words::less;
@@ -37,6 +38,9 @@ const AFTER: u32 = 16;
 
 const TOUCHED: u32 = 17;
 
+// A row is a tag and, in the word after it, a reading.
+const READINGS: u32 = ROWS + 1;
+
 // The answer's six words: how many rows, pages and blocks of the list, and the page of each of the three levels.
 pub const ROW_COUNT: u32 = ANSWER;
 
@@ -50,7 +54,7 @@ const ANSWER_WORDS: u32 = 6;
 
 // Word i of a part: 0 before `zeros`, else its mark.
 fn is_left(notes: &Notes, part: u32, i: u32, zeros: u32) -> bool {
-    let left = get(notes, sum(part, i));
+    let left = at(notes, part, i);
     if i < zeros {
         return left == 0;
     }
@@ -111,24 +115,18 @@ pub fn left(notes: &Notes, a: LookBack, got: u32) -> u32 {
     all_left(notes, a, 0, 0)
 }
 
-// Row i is a row of the state, which then has it no more: no row stands twice.
-fn row(notes: &mut Notes, i: u32) -> u32 {
-    let at = sum(ROWS, product(2, i));
-    let tag = get(notes, at);
+// A row of the state: a tag that stands, with its reading.
+fn in_state(notes: &Notes, tag: u32, reading: u32) -> bool {
     if get(notes, log::TAGS) <= tag {
-        return ROW;
+        return false;
     }
-    if get(notes, sum(STANDING, tag)) != 1 {
-        return ROW;
+    if log::stands(notes, tag) {
+        return log::reading(notes, tag) == reading;
     }
-    if get(notes, sum(READINGS, tag)) != get(notes, sum(at, 1)) {
-        return ROW;
-    }
-    put(notes, sum(STANDING, tag), 0);
-    0
+    false
 }
 
-// The rows are the log's state at t, order aside.
+// The rows are the log's state at t, order aside. Each row takes its tag out of the state, so that none stands twice.
 fn rows_agree(notes: &mut Notes, t: u32) -> u32 {
     log::state_at(notes, t);
     let count = get(notes, ROW_COUNT);
@@ -136,40 +134,37 @@ fn rows_agree(notes: &mut Notes, t: u32) -> u32 {
         return ROW;
     }
     for i in 0..count {
-        let found = row(notes, i);
-        if found != 0 {
-            return found;
+        let tag = at(notes, ROWS, product(2, i));
+        let reading = at(notes, READINGS, product(2, i));
+        if !in_state(notes, tag, reading) {
+            return ROW;
         }
+        put_at(notes, STATE, tag, 0);
     }
     0
 }
 
-// Entry i of the list is a block, and none before it was the same.
-fn entry(notes: &mut Notes, i: u32) -> u32 {
-    let n = get(notes, sum(LIST, i));
+// A block of the book that no entry of the list has named yet.
+fn unnamed(notes: &Notes, n: u32) -> bool {
     if n == 0 {
-        return NOT_LISTED;
+        return false;
     }
     if get(notes, book::BLOCKS) < n {
-        return NOT_LISTED;
+        return false;
     }
-    if get(notes, sum(NAMED, n)) != 0 {
-        return NOT_LISTED;
-    }
-    put(notes, sum(NAMED, n), 1);
-    0
+    at(notes, NAMED, n) == 0
 }
 
 // The list names blocks of the book, none twice.
 fn list_agrees(notes: &mut Notes) -> u32 {
-    let blocks = get(notes, book::BLOCKS);
-    fill(notes, NAMED, sum(NAMED, sum(blocks, 1)), 0);
+    fill(notes, NAMED, NAMED_END, 0);
     let count = get(notes, LIST_COUNT);
     for i in 0..count {
-        let found = entry(notes, i);
-        if found != 0 {
-            return found;
+        let n = at(notes, LIST, i);
+        if !unnamed(notes, n) {
+            return NOT_LISTED;
         }
+        put_at(notes, NAMED, n, 1);
     }
     0
 }

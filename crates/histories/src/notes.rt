@@ -24,13 +24,13 @@ pub const BOOK: u32 = 45056;
 
 pub const FORMER: u32 = 51200;
 
-// The state at a second, by tag: 1 if it stands, and its reading.
-pub const STANDING: u32 = 57344;
+// The state at a second, by tag: the number of the change that made it, from 1, while the tag stands, else 0.
+pub const STATE: u32 = 57344;
 
-pub const READINGS: u32 = 58368;
+// By block: 1 once the list that is compared has named it. The words of this part end where the next starts.
+pub const NAMED: u32 = 58368;
 
-// By block: 1 once the list that is compared has named it.
-pub const NAMED: u32 = 59392;
+pub const NAMED_END: u32 = 60416;
 
 // What the last look-back left of its two buffers and of the six words of its answer.
 pub const ROWS: u32 = 60416;
@@ -56,6 +56,16 @@ pub fn put(notes: &mut Notes, i: u32, word: u32) {
     }
 }
 
+// Word i of a part.
+pub fn at(notes: &Notes, part: u32, i: u32) -> u32 {
+    get(notes, sum(part, i))
+}
+
+pub fn put_at(notes: &mut Notes, part: u32, i: u32, word: u32) {
+    put(notes, sum(part, i), word);
+}
+
+// Adds n to a word.
 pub fn add(notes: &mut Notes, i: u32, n: u32) {
     let before = get(notes, i);
     put(notes, i, sum(before, n));
@@ -77,8 +87,8 @@ pub fn fill(notes: &mut Notes, from: u32, to: u32, word: u32) {
 // The first words of one part of the notes, into another part.
 pub fn copy(notes: &mut Notes, target: u32, source: u32, length: u32) {
     for i in 0..length {
-        let word = get(notes, sum(source, i));
-        put(notes, sum(target, i), word);
+        let word = at(notes, source, i);
+        put_at(notes, target, i, word);
     }
 }
 

@@ -124,25 +124,30 @@ fn answers(notes: &Notes, name: &[u8], part: u32, first: u32) {
     for i in first..NUMBERS {
         io::write_all(STDOUT, name);
         number(i);
-        line(b": ", get(notes, sum(part, i)));
+        total(notes, b": ", sum(part, i));
     }
 }
 
+fn total(notes: &Notes, name: &[u8], i: u32) {
+    line(name, get(notes, i));
+}
+
 pub fn print(notes: &Notes) {
-    line(b"histories ", get(notes, HISTORIES));
-    line(b"calls ", get(notes, CALLS));
-    line(
+    total(notes, b"histories ", HISTORIES);
+    total(notes, b"calls ", CALLS);
+    total(
+        notes,
         b"accepted starts, changes and clock moves ",
-        get(notes, ACCEPTED),
+        ACCEPTED,
     );
-    line(b"look-backs answered ", get(notes, LOOK_BACKS));
-    line(b"rows compared ", get(notes, ROWS));
-    line(b"blocks listed ", get(notes, LISTED));
-    line(b"blocks opened ", get(notes, OPENED));
-    line(b"blocks closed ", get(notes, CLOSED));
-    line(b"most blocks in a history ", get(notes, BLOCKS_MOST));
+    total(notes, b"look-backs answered ", LOOK_BACKS);
+    total(notes, b"rows compared ", ROWS);
+    total(notes, b"blocks listed ", LISTED);
+    total(notes, b"blocks opened ", OPENED);
+    total(notes, b"blocks closed ", CLOSED);
+    total(notes, b"most blocks in a history ", BLOCKS_MOST);
     answers(notes, b"refusal ", ANSWERS, 1);
-    line(b"calls on damaged stores ", get(notes, DAMAGED_CALLS));
+    total(notes, b"calls on damaged stores ", DAMAGED_CALLS);
     answers(notes, b"damaged, answer ", DAMAGED, 0);
-    line(b"mismatches ", get(notes, MISMATCHES));
+    total(notes, b"mismatches ", MISMATCHES);
 }

@@ -3,6 +3,9 @@
 // An end not yet known; no second.
 pub const OPEN: u32 = 4294967295;
 
+// The mark of place 0.
+pub const MARK: u32 = 3000000000;
+
 pub fn sum(x: u32, y: u32) -> u32 {
     std::num::wrapping_add_u32(x, y)
 }
@@ -46,5 +49,5 @@ pub fn bit(low: u32, high: u32, k: u32) -> u32 {
 
 // A word that tells its place: what a call must leave is filled with these.
 pub fn mark(i: u32) -> u32 {
-    sum(i, 3000000000)
+    sum(MARK, i)
 }

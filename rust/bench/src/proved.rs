@@ -46,8 +46,7 @@ impl Proved {
     }
 
     /// Makes the calls of a journal: entries read, entries accepted.
-    #[cfg(feature = "replay")]
-    pub fn replay(store: &mut [u32], journal: &[u32]) -> (u32, u32) {
+    pub fn replay(store: &mut [u32], journal: &[u32]) -> (u64, u64) {
         let tally = calls::replay(store, journal);
         (tally.entries, tally.accepted)
     }

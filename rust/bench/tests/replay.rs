@@ -3,10 +3,10 @@ mod common;
 use bench::{Calls, Independent, OPEN, Proved};
 use common::history::{History, TEMPERS};
 use common::{Call, Rng, settings};
-use register::{Entry, Register, Settings, Tally, calls};
+use register::{Entry, OwnedRegister, Refusal, Register, Settings, Tally, calls};
 
 /// The words of a journal, read here without the crate `register`: kind and five numbers, six words an entry.
-fn replay(store: &mut [u32], journal: &[u32]) -> (u32, u32) {
+fn replay(store: &mut [u32], journal: &[u32]) -> (u64, u64) {
     let (mut entries, mut accepted) = (0, 0);
     for &[kind, a, b, c, d, _] in journal.as_chunks().0 {
         let told = match kind {
@@ -18,7 +18,7 @@ fn replay(store: &mut [u32], journal: &[u32]) -> (u32, u32) {
             _ => break,
         };
         entries += 1;
-        accepted += u32::from(told.is_ok());
+        accepted += u64::from(told.is_ok());
     }
     (entries, accepted)
 }
@@ -75,11 +75,14 @@ fn journals() {
         let journal = draw_journal(s, &mut rng);
         let less = if rng.chance(1, 20) { 1 + rng.below(5000) as usize } else { 0 };
         let before: Vec<u32> = (0..s.words().saturating_sub(less) + 3).map(|_| rng.word()).collect();
-        let (mut proved, mut independent) = (before.clone(), before);
+        let (mut proved, mut independent, mut one_by_one) = (before.clone(), before.clone(), before);
         let told = Proved::replay(&mut proved, &journal);
         assert_eq!(told, replay(&mut independent, &journal), "seed {seed}");
         assert!(proved == independent, "seed {seed}: the words differ");
-        assert_eq!(told.0 as usize, Entry::all(&journal).count(), "seed {seed}: entries as the wrapper reads them");
+        let results = Entry::all(&journal).map(|entry| calls::apply(&mut one_by_one, entry));
+        let applied = results.fold((0, 0), |sum, number| (sum.0 + 1, sum.1 + u64::from(number == 0)));
+        assert_eq!(told, applied, "seed {seed}: the entries as the wrapper reads and applies them");
+        assert!(proved == one_by_one, "seed {seed}: entries applied one by one leave other words");
         totals = (totals.0 + told.0, totals.1 + told.1);
     }
     println!("replay: {} entries read, {} accepted", totals.0, totals.1);
@@ -103,6 +106,11 @@ fn rebuilt() {
     let (mut register, tally) = Register::rebuild(&mut store, &journal).expect("the journal begins with a start");
     assert_eq!((tally, register.clock()), (Tally { entries: 4, accepted: 3 }, 2));
     assert_eq!(register.replay(&journal[6..]), Tally { entries: 3, accepted: 0 });
+    let mut owned = OwnedRegister::new(settings);
+    let told: Vec<u32> = Entry::all(&journal).map(|entry| owned.apply(entry).err().map_or(0, u32::from)).collect();
+    assert_eq!(told, [0, 0, 9, 0]);
+    assert_eq!(register.apply(Entry::Start { block: 3, useful: 2, blocks: 8, tags: 16 }), Err(Refusal::Settings));
+    assert!(owned.into_words() == store);
     assert!(Register::rebuild(&mut [0; 20], &journal).is_err());
 }
 

@@ -17,6 +17,7 @@
 //! assert_eq!(calls::clear(&mut store, 1, 3), 10);
 //! assert_eq!(Refusal::result_of(10), Err(Refusal::NotStanding));
 //! ```
+use crate::{Entry, Tally};
 
 mod export {
     unsafe extern "C" {
@@ -35,18 +36,14 @@ mod export {
             list_words: usize,
             answer: *mut [u32; 6],
         ) -> u32;
-    }
-
-    #[cfg(feature = "replay")]
-    unsafe extern "C" {
         pub fn register_words(block: u32, useful: u32, blocks: u32, tags: u32) -> usize;
         pub fn register_replay(
             store: *mut u32,
             words: usize,
             journal: *const u32,
             journal_words: usize,
-            answer: *mut [u32; 2],
-        ) -> u32;
+            answer: *mut [u64; 2],
+        );
     }
 }
 
@@ -95,6 +92,18 @@ pub fn advance(store: &mut [u32], second: u32) -> u32 {
     unsafe { export::register_advance(store.as_mut_ptr(), store.len(), second) }
 }
 
+/// Makes the call of a journal's entry, and answers as that call does.
+#[must_use = "0 is accepted, any other number a refusal"]
+pub fn apply(store: &mut [u32], entry: Entry) -> u32 {
+    match entry {
+        Entry::Start { block, useful, blocks, tags } => start(store, block, useful, blocks, tags),
+        Entry::Set { second, tag, reading } => set(store, second, tag, reading),
+        Entry::Clear { second, tag } => clear(store, second, tag),
+        Entry::Update { second, tag, reading } => update(store, second, tag, reading),
+        Entry::Advance { second } => advance(store, second),
+    }
+}
+
 /// What stood at a second. `rows` gets tag and reading of each row, `list` the numbers of the blocks read, `answer` the
 /// numbers of rows, pages read and blocks listed and the page passed on each level, [`OPEN`](crate::OPEN) if none.
 /// Words after these keep their contents, and a refusal leaves `answer`.
@@ -119,7 +128,6 @@ pub fn look_back(store: &[u32], second: u32, rows: &mut [u32], list: &mut [u32],
 
 /// Words of a store with these settings, as the register counts them; 0 where a start would refuse them.
 /// [`Settings::words`](crate::Settings::words) gives the same in a constant.
-#[cfg(feature = "replay")]
 #[must_use]
 pub fn words(block: u32, useful: u32, blocks: u32, tags: u32) -> usize {
     // SAFETY: four numbers are passed.
@@ -127,14 +135,14 @@ pub fn words(block: u32, useful: u32, blocks: u32, tags: u32) -> usize {
 }
 
 /// Makes the calls of a journal, one after another; those that are refused change nothing.
-#[cfg(feature = "replay")]
 #[must_use = "it says how many entries were read, which may be fewer than the journal has"]
-pub fn replay(store: &mut [u32], journal: &[u32]) -> crate::Tally {
+pub fn replay(store: &mut [u32], journal: &[u32]) -> Tally {
     let mut answer = [0; 2];
-    // SAFETY: as above; answer has the two words that the export writes. It always answers 0.
+    // SAFETY: pointers and lengths are those of borrowed slices, which Rust's borrows keep apart, and answer has the
+    // two numbers that the export writes.
     unsafe {
         export::register_replay(store.as_mut_ptr(), store.len(), journal.as_ptr(), journal.len(), &raw mut answer);
     }
     let [entries, accepted] = answer;
-    crate::Tally { entries, accepted }
+    Tally { entries, accepted }
 }

@@ -145,7 +145,7 @@ impl FusedIterator for Entries<'_> {}
 #[derive(Clone, Copy, Debug, PartialEq, Eq, Hash)]
 pub struct Tally {
     /// Entries up to the journal's end.
-    pub entries: u32,
+    pub entries: u64,
     /// Those whose call was accepted.
-    pub accepted: u32,
+    pub accepted: u64,
 }

@@ -32,6 +32,11 @@
 //! # Ok::<(), Refusal>(())
 //! ```
 //!
+//! # A journal
+//!
+//! A store can be rebuilt from a journal of the calls that made it: [`Entry`], [`Register::rebuild`]. The repository's
+//! `examples/` has a program that so loses no change that it has acknowledged, wherever it is stopped.
+//!
 //! # The archive
 //!
 //! The build script takes the archive that the environment variable `REGISTER_ARCHIVE` names, else it runs

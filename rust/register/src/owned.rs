@@ -1,5 +1,5 @@
 //! A register that holds its own words.
-use crate::{LookBack, Reader, Refusal, Register, Settings, calls};
+use crate::{Entry, LookBack, Reader, Refusal, Register, Settings, Tally, calls};
 use alloc::vec;
 use alloc::vec::Vec;
 use core::fmt;
@@ -104,11 +104,19 @@ impl OwnedRegister {
         Ok(LookBack::new(rows, list, answer, cut))
     }
 
+    /// Makes the call of a journal's entry: see [`Register::apply`]. A start that needs more words is refused.
+    ///
+    /// # Errors
+    ///
+    /// As for [`Register::apply`].
+    pub fn apply(&mut self, entry: Entry) -> Result<(), Refusal> {
+        Refusal::result_of(calls::apply(&mut self.store, entry))
+    }
+
     /// Makes the calls of a journal: see [`Register::replay`]. The words are not made more: a start among the entries
     /// that needs more is refused.
-    #[cfg(feature = "replay")]
     #[must_use = "it says how many entries were read, which may be fewer than the journal has"]
-    pub fn replay(&mut self, journal: &[u32]) -> crate::Tally {
+    pub fn replay(&mut self, journal: &[u32]) -> Tally {
         calls::replay(&mut self.store, journal)
     }
 

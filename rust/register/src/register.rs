@@ -1,5 +1,5 @@
 //! A register in lent words.
-use crate::{LookBack, Reader, Refusal, Settings, calls};
+use crate::{Entry, LookBack, Reader, Refusal, Settings, Tally, calls};
 use core::fmt;
 
 /// A register in words that are lent. It keeps nothing elsewhere, so it may be dropped and opened again.
@@ -103,21 +103,43 @@ impl<'a> Register<'a> {
         self.reader().look_back(second, rows, list)
     }
 
+    /// Makes the call of a journal's entry; a start begins a new history, with its own settings.
+    ///
+    /// # Errors
+    ///
+    /// Those of the entry's call; of a start also [`Refusal::Settings`].
+    pub fn apply(&mut self, entry: Entry) -> Result<(), Refusal> {
+        Refusal::result_of(calls::apply(self.store, entry))
+    }
+
     /// Makes the calls of a journal, one after another; those that are refused change nothing. A start among them
     /// begins a new history, with its own settings.
-    #[cfg(feature = "replay")]
     #[must_use = "it says how many entries were read, which may be fewer than the journal has"]
-    pub fn replay(&mut self, journal: &[u32]) -> crate::Tally {
+    pub fn replay(&mut self, journal: &[u32]) -> Tally {
         calls::replay(self.store, journal)
     }
 
     /// Rebuilds a register, in words of any contents, from a journal that begins with a start.
+    /// `examples/mapped.rs` shows how a journal is kept so that no acknowledged change is lost.
+    ///
+    /// ```
+    /// use register::{Entry, Refusal, Register, Settings, Tally};
+    ///
+    /// let settings = Settings::new(4, 2, 8, 16)?;
+    /// let change = Entry::Set { second: 10, tag: 3, reading: -25 };
+    /// let journal = [Entry::from(settings), change, change].map(Entry::to_words).concat();
+    ///
+    /// let mut store = vec![77; settings.words()];
+    /// let (register, tally) = Register::rebuild(&mut store, &journal)?;
+    /// assert_eq!(register.clock(), 10);
+    /// assert_eq!(tally, Tally { entries: 3, accepted: 2 }); // the second set was refused: the tag stood
+    /// # Ok::<(), Refusal>(())
+    /// ```
     ///
     /// # Errors
     ///
     /// As for [`open`](Register::open), if no start of the journal was accepted.
-    #[cfg(feature = "replay")]
-    pub fn rebuild(store: &'a mut [u32], journal: &[u32]) -> Result<(Register<'a>, crate::Tally), Refusal> {
+    pub fn rebuild(store: &'a mut [u32], journal: &[u32]) -> Result<(Register<'a>, Tally), Refusal> {
         let tally = calls::replay(store, journal);
         Ok((Register::open(store)?, tally))
     }

@@ -22,7 +22,6 @@ fn printed_case() {
 }
 
 #[test]
-#[cfg(feature = "replay")]
 fn journal() {
     checks("journal.c");
 }

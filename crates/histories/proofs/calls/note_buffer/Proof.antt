@@ -20,5 +20,4 @@ note-buffer-spec =
     (search needs)
     (search needs)
     (search needs)
-    (search needs)
     (search needs))

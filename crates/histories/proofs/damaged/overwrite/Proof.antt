@@ -10,10 +10,7 @@ overwrite-spec =
     tie.close
     (tie.spec
     (λ _ _ _ _ _ _ _ _. Unit {0})
-    (λ _ _ _ _ times _ _ i. times - i)
-    (search needs)
-    (search needs)
-    (search needs)
+    (λ _ _ _ _ times _ _ k. times - k)
     (search needs)
     (search needs)
     (search needs)

@@ -20,5 +20,4 @@ next-tag-spec =
     (search needs)
     (search needs)
     (search needs)
-    (search needs)
     (search needs))

@@ -19,5 +19,4 @@ mark-store-spec =
     (search needs)
     (search needs)
     (search needs)
-    (search needs)
     (search needs))

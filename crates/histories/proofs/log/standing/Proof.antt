@@ -18,5 +18,4 @@ standing-spec =
     (search needs)
     (search needs)
     (search needs)
-    (search needs)
     (search needs))

@@ -20,4 +20,5 @@ state-at-spec =
     (search needs)
     (search needs)
     (search needs)
+    (search needs)
     (search needs))

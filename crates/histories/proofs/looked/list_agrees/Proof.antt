@@ -9,9 +9,8 @@ pub list-agrees-spec : {M : Type 1} → statement M
 list-agrees-spec =
     tie.close
     (tie.spec
-    (λ _ _ _ _ _ _. Unit {0})
-    (λ _ _ count _ _ i. count - i)
-    (search needs)
+    (λ _ _ _ _ _. Unit {0})
+    (λ _ count _ _ i. count - i)
     (search needs)
     (search needs)
     (search needs)

@@ -17,6 +17,4 @@ copy-spec =
     (search needs)
     (search needs)
     (search needs)
-    (search needs)
-    (search needs)
     (search needs))

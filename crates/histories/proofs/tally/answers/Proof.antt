@@ -20,5 +20,4 @@ answers-spec =
     (search needs)
     (search needs)
     (search needs)
-    (search needs)
     (search needs))

@@ -3,13 +3,13 @@
 -- beside it, one word or one argument off, an example where it is not.
 use mathlib.Core.Path.{_≡_}
 use lib.ListN.{replicate}
 use Rattle.calls.specs.Calls.{Start}
 use Rattle.calls.specs.Step.{step}
 use Rattle.calls.specs.History.{wordsAfter}
-use Rattle.calls.specs.EdgesStores.{settings, three, toThree}
-use Rattle.calls.specs.EdgesHead.{StartEdges, HeadEdges}
-use Rattle.calls.specs.EdgesChange.{TagEdges, PlaceEdges, TagBlockEdges, AcceptorEdges, RoomEdges}
-use Rattle.calls.specs.EdgesLookBack.{AskEdges, WalkEdges, PageEdges}
+use Rattle.edges.specs.EdgesStores.{settings, three, toThree}
+use Rattle.edges.specs.EdgesHead.{StartEdges, HeadEdges}
+use Rattle.edges.specs.EdgesChange.{TagEdges, PlaceEdges, TagBlockEdges, AcceptorEdges, RoomEdges}
+use Rattle.edges.specs.EdgesLookBack.{AskEdges, WalkEdges, PageEdges}
 
 pub record Edges : Type 0 where
   -- the store that the edges of a change set out from is one that a history leaves

@@ -14,18 +14,18 @@ use Rattle.layout.specs.Standing.{stands, raised, lowered}
 use Rattle.layout.specs.Parts.{blockPart, levelPart, pagePart, blockWord, slotWord}
 use Rattle.layout.specs.Words.{readWord, writeWord, wipeBlock}
 use Rattle.layout.specs.OnWords.{over}
 use Rattle.calls.specs.Calls.{Start}
 use Rattle.calls.specs.Placing.{enterTime, openBlock, unlink, endRecord, standing, putRecord, moveRecord, closeFull, judgeFull, roll, makeRoom, place, replace, close, judge, clearTag, finish, setProgram, clearProgram}
 use Rattle.calls.specs.Walk.{lastUpTo, entries, topLevel, lookUp, descend, search, rowOf, rowsOf, neighbour, visit, path, look}
 use Rattle.calls.specs.Refusals.{badPlace, badBlock, unsoundSet, unsoundClear, blocksOut}
 use Rattle.calls.specs.LookBack.{reader, lookAt, lookBack}
 use Rattle.calls.specs.Step.{step, start, set, clear, update, advance}
 use Rattle.calls.specs.History.{wordsAfter}
-use Rattle.calls.specs.EdgesStores.{settings, fresh, three, toThree, wide, six, tree, many}
-use Rattle.calls.specs.EdgesChange.{TagEdges, PlaceEdges, TagBlockEdges, AcceptorEdges, RoomEdges}
-use Rattle.calls.specs.EdgesLookBack.{AskEdges, WalkEdges, PageEdges}
-use Rattle.calls.specs.Edges.{Edges}
-use Rattle.calls.specs.EdgesHeadProof.{start-edges, head-edges}
+use Rattle.edges.specs.EdgesStores.{settings, fresh, three, toThree, wide, six, tree, many}
+use Rattle.edges.specs.EdgesChange.{TagEdges, PlaceEdges, TagBlockEdges, AcceptorEdges, RoomEdges}
+use Rattle.edges.specs.EdgesLookBack.{AskEdges, WalkEdges, PageEdges}
+use Rattle.edges.specs.Edges.{Edges}
+use Rattle.edges.specs.EdgesHeadProof.{start-edges, head-edges}
 
 three-left : wordsAfter (step (replicate 4586 9) (Start settings) .store) toThree ≡ three
 unfolding three bitAt withBit withoutBit bitsFrom slotsOf blockLen layoutLen each inLimits headOf headWords withHead cleared badHead placed storeCursor stands raised lowered readWord writeWord wipeBlock over enterTime openBlock unlink endRecord standing putRecord moveRecord closeFull judgeFull roll makeRoom place replace close judge clearTag finish setProgram clearProgram badPlace badBlock unsoundSet unsoundClear blocksOut start set clear
@@ -72,6 +72,7 @@ place-edges = record {
   sound = (refl, refl);
   above = (refl, refl);
   above-none = (refl, refl);
+  earlier = (refl, refl);
   tag-below = (refl, refl);
   tag-above = (refl, refl);
   no-bit = (refl, refl);

@@ -6,11 +6,11 @@ use lib.ListN.{replicate}
 use Rattle.layout.specs.declared.address.Address.the-variants.{Head, Time, Field, Slot}
 use Rattle.layout.specs.Sizes.{OPEN}
 use Rattle.layout.specs.Fields.{headClock, headChild, closedWord, upWord, leftWord, childWord, toWord}
 use Rattle.calls.specs.Calls.{Call, Ask, LookBack}
 use Rattle.calls.specs.Refusals.{refusal}
 use Rattle.calls.specs.Step.{step, testsOf}
 use Rattle.calls.specs.Table.{view, onePage}
-use Rattle.calls.specs.EdgesStores.{Refuses, Passes, _▹_, _≔_, tree, many}
+use Rattle.edges.specs.EdgesStores.{Refuses, Passes, _▹_, _≔_, tree, many}
 
 -- a look-back at t with two buffers of so many words, each 77
 abbrev pub asked : ℕ → ℕ → ℕ → Call
@@ -101,8 +101,7 @@ abbrev pub Finds : List ℕ → ℕ → ℕ → List ℕ → ℕ → Type 0
 Finds ws t n pages read = step ws (asked t 2 n) .answer ≡ view [] (n ∷ []) pages read
 
 pub record PageEdges : Type 0 where
-  -- "The top level is the lowest that has all entries on one page": with 17 blocks the middle one, with 257 the
-  -- highest
+  -- "The top level is the lowest that has all entries on one page": from 17 blocks on the middle, from 257 the highest
   pub blocks-16 : Finds (many 16 4641) 5 16 (0 ∷ OPEN ∷ OPEN ∷ []) 1
   pub blocks-17 : Finds (many 17 4657) 5 17 (1 ∷ 0 ∷ OPEN ∷ []) 2
   pub blocks-256 : Finds (many 256 8481) 5 256 (15 ∷ 0 ∷ OPEN ∷ []) 2

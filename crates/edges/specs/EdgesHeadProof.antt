@@ -10,13 +10,13 @@ use Rattle.layout.specs.Sizes.{blockLen, layoutLen}
 use Rattle.layout.specs.Settings.{inLimits}
 use Rattle.layout.specs.Head.{headOf, headWords, badHead}
 use Rattle.layout.specs.Words.{writeWord}
 use Rattle.calls.specs.Calls.{LookBack, Call, Start, Set, Clear, Update, Advance, Ask}
 use Rattle.calls.specs.Refusals.{Test, refusal, storeTests}
 use Rattle.calls.specs.LookBack.{lookBack}
 use Rattle.calls.specs.Step.{testsOf, start, set, clear, update, advance}
 use Rattle.calls.specs.Claims.{Change}
-use Rattle.calls.specs.EdgesStores.{Refuses, AllRefuse, headOnly, three}
-use Rattle.calls.specs.EdgesHead.{StartEdges, HeadEdges}
+use Rattle.edges.specs.EdgesStores.{Refuses, AllRefuse, headOnly, three}
+use Rattle.edges.specs.EdgesHead.{StartEdges, HeadEdges}
 
 -- ---- a refusal that comes by the first tests is given whatever tests follow
 kept : (l m : List Test) (n : ℕ) → refusal l ≡ n → eqb n 0 ≡ false → refusal (l ++ m) ≡ n

@@ -147,8 +147,8 @@ tree = storeOf (settingsOf 2 1 8 3) (cursorOf 6 9 1 1 2) (1 ∷ 2 ∷ 3 ∷ 4 �
     ++ (5 ∷ 9 ∷ 4 ∷ 0 ∷ 0 ∷ 6 ∷ replicate 10 0)
     ++ (6 ∷ OPEN ∷ 2 ∷ 0 ∷ 0 ∷ 0 ∷ replicate 42 0))
 
--- b = 2, q = 1, B = N = n, D = 1, the clock at 9, all words behind the head 0: n blocks that were opened and closed at
--- 0
+-- b = 2, q = 1, B = N = n, D = 1, the clock at 9, as many words as the layout has, all behind the head 0: n blocks that
+-- were opened and closed at 0
 unfoldable pub many : ℕ → ℕ → List ℕ
 many n words =
     headWords (record { settings = settingsOf 2 1 n 1; cursor = cursorOf n 9 1 0 1 }) ++ replicate (words - headLen) 0

@@ -8,8 +8,8 @@ use Rattle.layout.specs.declared.address.Address.the-variants.{Head}
 use Rattle.layout.specs.Sizes.{OPEN}
 use Rattle.layout.specs.Fields.{headMark, headBlock, headUseful, headBlocks, headTags, headOpened, headClock, headFill, headSpare}
 use Rattle.layout.specs.Settings.{settingsOf}
 use Rattle.calls.specs.Calls.{Start, Advance}
-use Rattle.calls.specs.EdgesStores.{Refuses, Passes, AllRefuse, _▹_, _≔_, settings, headOnly, three}
+use Rattle.edges.specs.EdgesStores.{Refuses, Passes, AllRefuse, _▹_, _≔_, settings, headOnly, three}
 
 -- ---- a start
 -- refusal 1, on any words

@@ -4,8 +4,8 @@ use Prim.Native.Nat.{ℕ, _-_}
 use Rattle.layout.specs.declared.address.Address.the-variants.{Head, Dir, Field, Bits, Slot}
 use Rattle.layout.specs.Sizes.{OPEN}
 use Rattle.layout.specs.Fields.{headBlocks, headFill, openedWord, upWord, rightWord, tagWord}
 use Rattle.calls.specs.Calls.{Set, Clear, Update, Advance}
-use Rattle.calls.specs.EdgesStores.{Refuses, Passes, _▹_, _≔_, fresh, three, brim, out, wide, six}
+use Rattle.edges.specs.EdgesStores.{Refuses, Passes, _▹_, _≔_, fresh, three, brim, out, wide, six}
 
 -- ---- 5, 6, 8, 9, 10: second and tag. In `three` the clock is 9 and D is 6; tag 3 does not stand, tags 2 and 5 do.
 pub record TagEdges : Type 0 where
@@ -58,6 +58,8 @@ pub record PlaceEdges : Type 0 where
   -- "a place above the records placed": with one record fewer; and where none is placed
   pub above : BothRefuse 12 (three ▹ Head headFill ≔ 3) 2
   pub above-none : BothRefuse 12 (fresh ▹ Bits 1 0 ≔ 1 ▹ Dir 0 ≔ 1) 0
+  -- those of an earlier block are placed, however few the acceptor has (tag 1 stands in block 2)
+  pub earlier : BothPass (three ▹ Head headFill ≔ 1) 1
   -- "or whose record has another tag"
   pub tag-below : BothRefuse 12 (three ▹ Slot 3 3 tagWord ≔ 1) 2
   pub tag-above : BothRefuse 12 (three ▹ Slot 3 3 tagWord ≔ 3) 2
