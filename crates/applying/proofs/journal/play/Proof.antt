@@ -7,6 +7,9 @@ use Rattle.applying.specs.JournalLaws.{entered, passed, of-kind, of-none
 use Rattle.applying.proofs.journal.play.Statement.{statement}
 use Rattle.applying.proofs.journal.play.Tie as tie
 
+asked-requires : tie.Need-asked-requires
+asked-requires c κs = search needs
+
 start-requires : tie.Need-start-requires
 start-requires c κs = search needs
 
@@ -17,7 +20,7 @@ same-length : tie.Need-same-length
 same-length c = search needs
 
 returns : tie.Need-returns
-returns c = entered (Start (settingsOf _ _ _ _)) (of-kind _ _ _ _ 1 (c .before .before .before .before .before .if1 .taken)) (c .before .before .before .start .ensures) (c .counts .ensures)
+returns c = entered (Start (settingsOf _ _ _ _)) (of-kind _ _ _ _ 1 (c .before .before .before .before .before .before .if1 .taken)) (rw (c .before .before .before .before .asked .ensures) at (c .before .before .before .start .ensures)) (c .counts .ensures)
 
 set-requires : tie.Need-set-requires
 set-requires c κs = search needs
@@ -74,6 +77,7 @@ pub play-spec : {M : Type 1} → statement M
 play-spec =
     tie.close
     (tie.spec
+    asked-requires
     start-requires
     counts-requires
     same-length
