@@ -4,6 +4,7 @@ use crate::sound;
 use layout::address;
 use layout::address::Address;
 use layout::head::Head;
+use layout::place;
 use layout::refusal;
 ghost use mathlib.Core.Path.{_≡_};
 ghost use Prim.Native.Nat.{_≤_};
@@ -60,7 +61,7 @@ fn ending_refusal(store: &[u32], h: Head, tag: u32, p: u32, more: u32) -> u32
     if sound::place_is_bad(store, h, tag, p) {
         return refusal::UNSOUND;
     }
-    let n = places::block_of(h.settings, p);
+    let n = place::block_of(h.settings, p);
     if sound::closing_is_bad(store, h, n) {
         return refusal::UNSOUND;
     }

@@ -4,6 +4,7 @@ use layout::address;
 use layout::address::Address;
 use layout::fields;
 use layout::head::Head;
+use layout::place;
 use layout::standing::Standing;
 ghost use mathlib.Core.Path.{_≡_};
 ghost use mathlib.Core.Bool.{_&&_};
@@ -24,8 +25,8 @@ pub(crate) fn place_is_bad(store: &[u32], h: Head, tag: u32, p: u32) -> bool
     if h.placed() < p {
         return true;
     }
-    let n = places::block_of(h.settings, p);
-    let k = places::slot_of(h.settings, p);
+    let n = place::block_of(h.settings, p);
+    let k = place::slot_of(h.settings, p);
     if address::read(store, h.settings, Address::Slot(n, k, fields::TAG)) != tag {
         return true;
     }
@@ -123,8 +124,8 @@ fn after_clear(store: &[u32], h: Head, tag: u32, p: u32) -> Standing
     ensures { λ r. ⌜ r ≡ afterClear h (wordsOf h (now (store .entry))) tag ⌝ }
 {
     let b = address::standing(store, h.settings, h.cursor.opened);
-    if places::block_of(h.settings, p) == h.cursor.opened {
-        return b.without(places::slot_of(h.settings, p));
+    if place::block_of(h.settings, p) == h.cursor.opened {
+        return b.without(place::slot_of(h.settings, p));
     }
     b
 }

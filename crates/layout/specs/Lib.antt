@@ -9,6 +9,7 @@ pub mod Head
 pub mod Cursor
 pub mod Standing
 pub mod Parts
+pub mod Places
 pub mod Words
 pub mod AddressLaws
 pub mod ProgramLaws
@@ -22,3 +23,4 @@ pub mod StandingLaws
 pub mod OverLaws
 pub mod Able
 pub mod Moved
+pub mod Spot

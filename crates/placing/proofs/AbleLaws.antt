@@ -11,6 +11,7 @@ use Rattle.layout.specs.declared.address.Address.the-variants.{Dir, Field, Bits
 use Rattle.layout.specs.declared.standing.Standing.{Standing}
 use Rattle.layout.specs.Fields.{upWord, rightWord, childWord, closedWord, tagWord, toWord}
 use Rattle.layout.specs.Address.{Valid, Numbered}
+use Rattle.layout.specs.Spot.{Spot}
 use Rattle.layout.specs.Standing.{slots, blockBits}
 use Rattle.layout.specs.Program.{Prog, bind, get!, set!, run}
 use Rattle.layout.specs.ProgramLaws.{refine}
@@ -18,7 +19,6 @@ use Rattle.layout.specs.Ran.{Ran}
 use Rattle.layout.specs.OnWords.{over, Held}
 use Rattle.layout.specs.Able.{Able, able-held, able-first, able-next, able-passed, able-get, able-set, able-wipe}
 use Rattle.calls.specs.Placing.{openBlock, unlink, endRecord, standing, putRecord}
-use Rattle.places.specs.Spot.{Spot}
 use Rattle.placing.specs.Steps.{Listed}
 
 -- ---- a program that may run does run, and what comes after it may run

@@ -5,6 +5,7 @@ use layout::address;
 use layout::address::Address;
 use layout::head;
 use layout::head::Head;
+use layout::place;
 ghost use Rattle.layout.specs.Moved.{Moved};
 ghost use Rattle.layout.specs.Able.{Able};
 ghost use Rattle.calls.specs.Placing.{clearTag, finish, setProgram, advanceProgram};
@@ -18,8 +19,8 @@ fn clear_tag(store: &mut [u32], h: Head, second: u32, tag: u32) -> Head
 {
     let s = h.settings;
     let place = address::read(store, s, Address::Dir(tag));
-    let n = places::block_of(s, place);
-    let k = places::slot_of(s, place);
+    let n = place::block_of(s, place);
+    let k = place::slot_of(s, place);
     records::end_record(store, s, n, k, second);
     address::write(store, s, Address::Dir(tag), 0);
     if n == h.cursor.opened {

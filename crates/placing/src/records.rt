@@ -4,6 +4,7 @@ use layout::address;
 use layout::address::Address;
 use layout::fields;
 use layout::head::Head;
+use layout::place;
 use layout::settings::Settings;
 use layout::standing;
 ghost use Rattle.layout.specs.Ran.{Ran};
@@ -37,7 +38,7 @@ pub(crate) fn put_record(store: &mut [u32], h: Head, second: u32, tag: u32, read
     let s = h.settings;
     let n = h.cursor.opened;
     let k = h.cursor.fill;
-    let place = places::place_of(s, n, k);
+    let place = place::place_of(s, n, k);
     address::write(store, s, Address::Slot(n, k, fields::TAG), tag);
     address::write(store, s, Address::Slot(n, k, fields::READING), reading);
     address::write(store, s, Address::Slot(n, k, fields::FROM), second);

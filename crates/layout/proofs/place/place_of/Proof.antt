@@ -1,9 +1,9 @@
--- `place_of` meets its contract: a place is a small number.
+-- `place::place_of` meets its contract: a place is a small number.
 use native.Mathlib.Omega.{arith}
 use borrow.Author.Needs.{needs}
-use Rattle.places.specs.Spot.{place-most}
-use Rattle.places.proofs.place_of.Statement.{statement}
-use Rattle.places.proofs.place_of.Tie as tie
+use Rattle.layout.specs.Spot.{place-most}
+use Rattle.layout.proofs.place.place_of.Statement.{statement}
+use Rattle.layout.proofs.place.place_of.Tie as tie
 
 sub-result : tie.Need-sub-result
 sub-result c = search needs

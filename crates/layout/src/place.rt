@@ -1,10 +1,10 @@
 // Places, which the directory keeps and which decisions and placing read: slot k (from 0) of block n has place (n - 1) * b + k + 1.
-use layout::settings::Settings;
+use crate::settings::Settings;
 ghost use mathlib.Core.Path.{_≡_};
 ghost use Prim.Native.Nat.{_≤_};
 ghost use Rattle.layout.specs.Settings.{Within};
-ghost use Rattle.calls.specs.Placing.{placeOf, blockOf, slotOf};
-ghost use Rattle.places.specs.Spot.{Spot};
+ghost use Rattle.layout.specs.Places.{placeOf, blockOf, slotOf};
+ghost use Rattle.layout.specs.Spot.{Spot};
 
 // The place of slot k of block n.
 pub fn place_of(s: Settings, n: u32, k: u32) -> u32

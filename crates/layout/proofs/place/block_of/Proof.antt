@@ -1,10 +1,10 @@
--- `block_of` meets its contract: a quotient is no larger than what is divided.
+-- `place::block_of` meets its contract: a quotient is no larger than what is divided.
 use Prim.Native.Nat.{_-_}
 use native.Mathlib.Nat.{div-le-self}
 use native.Mathlib.Omega.{arith}
 use borrow.Author.Needs.{needs}
-use Rattle.places.proofs.block_of.Statement.{statement}
-use Rattle.places.proofs.block_of.Tie as tie
+use Rattle.layout.proofs.place.block_of.Statement.{statement}
+use Rattle.layout.proofs.place.block_of.Tie as tie
 
 sub-full : tie.Need-sub-full
 sub-full c = search needs
