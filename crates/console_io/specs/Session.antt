@@ -4,7 +4,9 @@
 use mathlib.Core.Path.{_≡_}
 use mathlib.Core.List.{List, _∷_}
 use Prim.Native.Nat.{ℕ, _+_, _<_}
+use lib.IntN.{ℤ}
 use lib.ListN.{length, take}
+use Rattle.io.specs.Counts.{clamped}
 use Rattle.console_text.specs.Output.{outputNames}
 use Rattle.console_run.specs.Console.{joined, consoleOutput}
 use Rattle.console_run.specs.Feed.{State, state, fed, fedAll, stepLines, fedLines, finishLines}
@@ -33,10 +35,20 @@ pub record FedBytes (input : List ℕ) (before after : Running) : Type 0 where
   pub reached : after .state ≡ fedAll (before .state) input
   pub sent : Sent (before .sink) (fedLines (before .state) input) (after .sink)
 
--- One read: the bytes that it left at the start of the chunk were fed, all of them; or there were none, and nothing changed.
-abbrev pub ReadPart : Running → List ℕ → Part → List ℕ → List ℕ → List ℕ → List ℕ → Type 0
-ReadPart before chunk (Fed next n) line store rows list = FedBytes (take n chunk) before (running next line store rows list)
-ReadPart before chunk End line store rows list = before .state ≡ state (before .state .console) line store rows list
+-- A read answered `got`: the bytes that it left at the start of the chunk were fed, all of them; or there were none, and nothing changed.
+abbrev pub AfterRead : ℤ → List ℕ → Running → Part → List ℕ → List ℕ → List ℕ → List ℕ → Type 0
+AfterRead got chunk before (Fed next) line store rows list =
+    FedBytes (take (clamped got (length chunk)) chunk) before (running next line store rows list)
+AfterRead got chunk before End line store rows list =
+    (clamped got (length chunk) ≡ 0) × (before .state ≡ state (before .state .console) line store rows list)
+
+pub record FedRead (got : ℤ) (chunk : List ℕ) (before : Running) (r : Part) (line store rows list : List ℕ) : Type 0 where
+  pub is : AfterRead got chunk before r line store rows list
+
+-- One read, whatever it answered.
+pub record ReadSome (chunk : List ℕ) (before : Running) (r : Part) (line store rows list : List ℕ) : Type 0 where
+  pub got : ℤ
+  pub fed : FedRead got chunk before r line store rows list
 
 -- Every read: the bytes read, one chunk after another, were fed.
 pub record ReadAll (before after : Running) : Type 0 where

@@ -1,12 +1,14 @@
 -- A session step by step: a byte, bytes by a count, a chunk, chunk after chunk, and the whole run. Rests on the lines' laws of console_run.
-use mathlib.Core.Path.{_≡_, refl, sym, ap, _∙_}
+use mathlib.Core.Path.{_≡_, refl, sym, ap, _∙_, subst}
 use mathlib.Core.Bool.{true, false}
 use mathlib.Core.List.{List, [], _∷_, _++_}
 use Prim.Native.Nat.{ℕ, suc, _+_, _≤_, _<_}
 use native.Mathlib.Omega.{arith}
 use native.Mathlib.Numerals.{add-one}
-use lib.ListN.{length, getD, drop, replicate, drop-of-length-le}
+use lib.IntN.{ℤ}
+use lib.ListN.{length, getD, take, drop, replicate, drop-of-length-le}
 use lib.Seq.{drop-cons}
+use Rattle.io.specs.Counts.{clamped}
 use Rattle.console_text.specs.Output.{outputNames}
 use Rattle.console_run.specs.declared.feed.Console.{Console}
 use Rattle.console_run.specs.declared.feed.Step.{Step}
@@ -21,7 +23,7 @@ use Rattle.console_io.specs.declared.Part.{Part}
 use Rattle.console_io.specs.declared.Part.the-variants.{Fed, End}
 use Rattle.console_io.specs.Sinks.{Emitted, Sent, none, next}
 use Rattle.console_io.specs.SinkLaws.{sent-on}
-use Rattle.console_io.specs.Session.{Running, running, FedByte, FedBytes, ReadPart, ReadAll, Ran}
+use Rattle.console_io.specs.Session.{Running, running, FedByte, FedBytes, AfterRead, ReadSome, ReadAll, Ran}
 
 -- ---- bytes
 
@@ -79,18 +81,25 @@ module _ {s t : Running} {input : List ℕ} {i : ℕ} (f : FedTo s input i t) wh
 
 -- ---- reads
 
+-- A count, and what is fed by it, by another name.
+pub counted : {a b : ℤ} {n : ℕ} (chunk : List ℕ) → a ≡ b → n ≡ clamped a (length chunk) → n ≡ clamped b (length chunk)
+counted chunk e f = f ∙ ap (λ (z : ℤ). clamped z (length chunk)) e
+
+pub fed-counted : {s t : Running} {n m : ℕ} (chunk : List ℕ) → n ≡ m → FedBytes (take n chunk) s t → FedBytes (take m chunk) s t
+fed-counted chunk e f = rw (← e) f
+
 pub read-none : (s : Running) → ReadAll s s
 read-none s = record { input = []; fed = fed-nothing s }
 
 pub read-more : {s t u : Running} {chunk : List ℕ} → ReadAll s t → FedBytes chunk t u → ReadAll s u
 read-more {chunk} r f = record { input = r .input ++ chunk; fed = fed-on (r .fed) f }
 
-module _ {s t : Running} (chunk : List ℕ) {line store rows list : List ℕ} {r : Part} (h : ReadAll s t) (p : ReadPart t chunk r line store rows list) where
-  pub read-fed : {next : Session} {n : ℕ} → r ≡ Fed next n → ReadAll s (running next line store rows list)
-  read-fed e = read-more h (rw e at p)
+module _ {s t : Running} {chunk line store rows list : List ℕ} {r : Part} (h : ReadAll s t) (p : ReadSome chunk t r line store rows list) where
+  pub read-fed : {next : Session} → r ≡ Fed next → ReadAll s (running next line store rows list)
+  read-fed {next} e = read-more h (subst (λ (q : Part). AfterRead (p .got) chunk t q line store rows list) e (p .fed .is))
 
   pub read-end : r ≡ End → ReadAll s (record { state = state (t .state .console) line store rows list; sink = t .sink })
-  read-end e = rw (← (rw e at p)) h
+  read-end e = rw (← (subst (λ (q : Part). AfterRead (p .got) chunk t q line store rows list) e (p .fed .is) .1)) h
 
 -- ---- the whole run
 

@@ -17,7 +17,7 @@ ghost use Rattle.console_text.specs.Output.{outputNames};
 ghost use Rattle.console_run.specs.Console.{saidLines};
 ghost use Rattle.console_run.specs.Feed.{isOver, state, finishLines};
 ghost use Rattle.console_io.specs.Sinks.{Emitted, Sent};
-ghost use Rattle.console_io.specs.Session.{running, FedByte, FedBytes, ReadPart, ReadAll, Ran};
+ghost use Rattle.console_io.specs.Session.{running, FedByte, FedBytes, FedRead, ReadSome, ReadAll, Ran};
 
 // The store, and buffers that are large enough for every settings.
 const STORE: usize = 16000;
@@ -35,9 +35,9 @@ struct Session {
     sink: Sink,
 }
 
-// One read: so many bytes at the start of the chunk were fed, or there are none left.
+// One read: a part of the input was fed, or there is none left.
 enum Part {
-    Fed(Session, usize),
+    Fed(Session),
     End,
 }
 
@@ -134,7 +134,28 @@ fn feed_all(
     next
 }
 
-// One read into the chunk, all of which is fed.
+// What a read that answered `got` left at the start of the chunk.
+fn feed_read(
+    session: Session,
+    got: isize,
+    chunk: &[u8],
+    line: &mut [u8; LINE_MOST],
+    store: &mut [u32; STORE],
+    rows: &mut [u32; ROWS],
+    list: &mut [u32; LIST],
+) -> Part
+    ensures { λ r. ⌜ FedRead got (now (chunk .entry))
+        (running session (now (line .entry)) (now (store .entry)) (now (rows .entry)) (now (list .entry)))
+        r (now (line .exit)) (now (store .exit)) (now (rows .exit)) (now (list .exit)) ⌝ }
+{
+    let n = io::count(got, chunk);
+    if n == 0 {
+        return Part::End;
+    }
+    Part::Fed(feed_all(session, &chunk[..n], line, store, rows, list))
+}
+
+// One read into the chunk. What it answers no contract can say.
 fn read_some(
     session: Session,
     input: i32,
@@ -144,16 +165,12 @@ fn read_some(
     rows: &mut [u32; ROWS],
     list: &mut [u32; LIST],
 ) -> Part
-    ensures { λ r. ⌜ ReadPart
+    ensures { λ r. ⌜ ReadSome (now (chunk .exit))
         (running session (now (line .entry)) (now (store .entry)) (now (rows .entry)) (now (list .entry)))
-        (now (chunk .exit)) r (now (line .exit)) (now (store .exit)) (now (rows .exit)) (now (list .exit)) ⌝ }
+        r (now (line .exit)) (now (store .exit)) (now (rows .exit)) (now (list .exit)) ⌝ }
 {
     let got = libc::read(input, chunk);
-    let n = io::count(got, chunk);
-    if n == 0 {
-        return Part::End;
-    }
-    Part::Fed(feed_all(session, &chunk[..n], line, store, rows, list), n)
+    feed_read(session, got, chunk, line, store, rows, list)
 }
 
 // The whole input. Nothing says that an input ends, so the reads are counted down from a number that no input uses up.
@@ -178,7 +195,7 @@ fn read_all(
         if is_over(stage) {
             return next;
         }
-        let Part::Fed(more, _) = read_some(next, input, &mut chunk, line, store, rows, list) else {
+        let Part::Fed(more) = read_some(next, input, &mut chunk, line, store, rows, list) else {
             return next;
         };
         next = more;

@@ -39,7 +39,7 @@ enum-told : tie.Need-enum-told Inv-loop μ-loop
 enum-told c = search needs
 
 returns-2 : tie.Need-returns-2 Inv-loop μ-loop
-returns-2 c = read-end _ (c .before .before .before .before .before .before .before .before .before .before .before .before .before .loop .inv .1) (c .before .before .before .read-some .ensures) (c .enum-told .given .1)
+returns-2 c = read-end (c .before .before .before .before .before .before .before .before .before .before .before .before .before .loop .inv .1) (c .before .before .before .read-some .ensures) (c .enum-told .given .1)
 
 sub-reads : tie.Need-sub-reads Inv-loop μ-loop
 sub-reads c = search needs
@@ -51,7 +51,7 @@ loop-again : tie.Need-loop-again Inv-loop μ-loop
 loop-again c =
     let at-read = c .before .before .before .before in (
       c .before .before .before .before .before .before .before .before .before .before .before .before .before .before .loop .inv .0 ∙ sym (at-read .read-some .kept .1 .1 .0),
-      read-fed _ (c .before .before .before .before .before .before .before .before .before .before .before .before .before .before .loop .inv .1) (c .before .before .before .before .read-some .ensures) (c .before .more .given .1),
+      read-fed (c .before .before .before .before .before .before .before .before .before .before .before .before .before .before .loop .inv .1) (c .before .before .before .before .read-some .ensures) (c .before .more .given .1),
     )
 
 returns-3 : tie.Need-returns-3 Inv-loop μ-loop
