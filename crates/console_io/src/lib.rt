@@ -3,6 +3,7 @@
 // operating system reads and writes no contract can say.
 pub mod sink;
 
+use console_run::feed::COUNT_MOST;
 use console_run::feed::Console;
 use console_run::print;
 use console_run::turn::Said;
@@ -22,12 +23,9 @@ ghost use Rattle.console_io.specs.Session.{running, FedByte, FedBytes, F
 // The store, and buffers that are large enough for every settings.
 const STORE: usize = 16000;
 
-const ROWS: usize = 8192;
-
 const LIST: usize = 4096;
 
-// More reads than any input takes.
-const READS_MOST: u64 = 18446744073709551615;
+const ROWS: usize = print::ROW_WORDS * LIST;
 
 // A run so far.
 struct Session {
@@ -188,7 +186,7 @@ fn read_all(
 {
     let mut chunk = io::buffer();
     let mut next = session;
-    let mut reads = READS_MOST;
+    let mut reads = COUNT_MOST;
     while 0 < reads {
         let console = next.console;
         let stage = console.stage;
@@ -212,8 +210,8 @@ fn finish(
     rows: &mut [u32; ROWS],
     list: &mut [u32; LIST],
 ) -> Sink
-    ensures { λ r. ⌜ Sent (session .sink)
-        (finishLines (state (session .console) (now (line .entry)) (now (store .entry)) (now (rows .entry)) (now (list .entry)))) r ⌝ }
+    ensures { λ r. ⌜ Sent (session .sink) (finishLines
+        (state (session .console) (now (line .entry)) (now (store .entry)) (now (rows .entry)) (now (list .entry)))) r ⌝ }
 {
     let console = session.console;
     let sink = session.sink;
