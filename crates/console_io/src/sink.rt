@@ -1,5 +1,6 @@
 // Where output lines go.
 use console_run::feed::next_number;
+ghost use Rattle.console_io.specs.Sinks.{Emitted, FirstDifference};
 
 pub enum Sink {
     // written to a descriptor
@@ -43,7 +44,9 @@ fn gives_all(fd: i32, bytes: &[u8]) -> bool {
 }
 
 // At the end of a compared run: the first line, counted from 1, that differs, be it one that was expected and did not come; 0 if none does.
-pub fn first_difference(sink: Sink) -> u64 {
+pub fn first_difference(sink: Sink) -> u64
+    ensures { λ r. ⌜ FirstDifference sink r ⌝ }
+{
     match sink {
         Sink::Write(_) => 0,
         Sink::Compare(fd, equal) => match next_byte(fd) {
@@ -55,11 +58,13 @@ pub fn first_difference(sink: Sink) -> u64 {
 }
 
 // One line goes out.
-pub(crate) fn emit(sink: Sink, line: &[u8]) -> Sink {
+pub(crate) fn emit(sink: Sink, line: &[u8]) -> Sink
+    ensures { λ r. ⌜ Emitted (now (line .entry)) sink r ⌝ }
+{
     match sink {
         Sink::Write(fd) => {
             io::write_all(fd, line);
-            Sink::Write(fd)
+            sink
         }
         Sink::Compare(fd, equal) => {
             let lines = next_number(equal);
@@ -69,6 +74,6 @@ pub(crate) fn emit(sink: Sink, line: &[u8]) -> Sink {
                 Sink::Differs(lines)
             }
         }
-        Sink::Differs(lines) => Sink::Differs(lines),
+        Sink::Differs(_) => sink,
     }
 }

@@ -9,6 +9,9 @@ ghost use Rattle.console_text.specs.Output.{Printed};
 ghost use Rattle.console_run.specs.Console.{missing, saidLines};
 ghost use Rattle.console_run.specs.PrintLaws.{lineCount, sliceLine};
 
+// A row of a look-back: its tag and its reading. (layout has no name for it.)
+pub const ROW_WORDS: usize = 2;
+
 // At the end of the input: one of the first three lines is missing, or nothing is.
 pub fn at_end(stage: Stage) -> Said
     ensures { λ r. ⌜ r ≡ missing stage ⌝ }
@@ -51,7 +54,7 @@ fn put_slice(out: &mut [u8], time: u32, count: u32, blocks: u32, rows: &[u32], i
     if count as u64 <= i {
         return print::put_sum(out, time, count, blocks);
     }
-    let at = 2 * i as usize;
+    let at = ROW_WORDS * i as usize;
     let tag = word(rows, at);
     let reading = word(rows, at + 1);
     print::put_row(out, time, tag, reading)

@@ -1,13 +1,14 @@
 // One worked case: NAME.in through the console, against NAME.out.
 use console_io::sink;
 use console_io::sink::Sink;
+use console_text::gather::LINE_MOST;
 use libc::STDOUT_FILENO;
 
 // A name with its ending fits a line of `cases`.
-const NAME_MOST: usize = 76;
+const NAME_MOST: usize = LINE_MOST - 4;
 
-fn put(line: &mut [u8; 80], at: usize, byte: u8) {
-    if at < 80 {
+fn put(line: &mut [u8; LINE_MOST], at: usize, byte: u8) {
+    if at < LINE_MOST {
         line[at] = byte;
     }
 }
@@ -20,7 +21,7 @@ fn open_start(line: &[u8], len: usize) -> i32 {
     os::open_read(&line[..len])
 }
 
-fn open_in(line: &mut [u8; 80], len: usize) -> i32 {
+fn open_in(line: &mut [u8; LINE_MOST], len: usize) -> i32 {
     if NAME_MOST < len {
         return -1;
     }
@@ -30,7 +31,7 @@ fn open_in(line: &mut [u8; 80], len: usize) -> i32 {
     open_start(line, len + 3)
 }
 
-fn open_out(line: &mut [u8; 80], len: usize) -> i32 {
+fn open_out(line: &mut [u8; LINE_MOST], len: usize) -> i32 {
     if NAME_MOST < len {
         return -1;
     }
@@ -51,7 +52,7 @@ fn tell(line: &[u8], len: usize, what: &[u8]) {
 }
 
 // Whether the case that the first `len` bytes of a line of `cases` name agrees; if not, it says so.
-pub(crate) fn agrees(line: &mut [u8; 80], len: usize) -> bool {
+pub(crate) fn agrees(line: &mut [u8; LINE_MOST], len: usize) -> bool {
     let input = open_in(line, len);
     if input < 0 {
         tell(line, len, b": its .in file is missing\n");
