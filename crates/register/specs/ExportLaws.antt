@@ -42,13 +42,13 @@ module _ {ws rows list rows′ list′ : List ℕ} {t : ℕ} {l : Looked} (b : L
   pub answered-back : {s : Slice} {six′ : List ℕ} → l ≡ looked.Answered s → six′ ≡ sets six 0 (sixWords s) → ExportedLookBack ws t rows list six 0 rows′ list′ six′
   answered-back e f = let p = answered-so (rw e at (b .answer)) in told-back (p .0, f ∙ p .1)
 
--- ---- how many words a store takes
-module _ (s : Settings) where
-  pub words-within : {b : Bool} → b ≡ inLimits s → b ≡ true → Within s
-  words-within e f = limits-within s (sym e ∙ f)
+-- ---- how many words a store takes, for settings as they are asked for
+pub words-within : {a : Settings} {b : Bool} → b ≡ inLimits a → b ≡ true → Within a
+words-within {a} e f = limits-within a (sym e ∙ f)
 
-  pub words-taken : {b : Bool} {n : ℕ} → b ≡ inLimits s → b ≡ true → StoreLong s n → n ≡ wordsFor s
-  words-taken e f l = let g : inLimits s ≡ true = sym e ∙ f in rw g (l .is)
+module _ {a s : Settings} (as-asked : a ≡ s) where
+  pub words-taken : {b : Bool} {n : ℕ} → b ≡ inLimits a → b ≡ true → StoreLong a n → n ≡ wordsFor s
+  words-taken e f l = let g : inLimits a ≡ true = sym e ∙ f in rw (← as-asked, g) (l .is)
 
-  pub words-none : {b : Bool} → b ≡ inLimits s → b ≡ false → 0 ≡ wordsFor s
-  words-none e f = let g : inLimits s ≡ false = sym e ∙ f in rw g
+  pub words-none : {b : Bool} → b ≡ inLimits a → b ≡ false → 0 ≡ wordsFor s
+  words-none e f = let g : inLimits a ≡ false = sym e ∙ f in rw (← as-asked, g)

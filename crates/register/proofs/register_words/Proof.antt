@@ -4,17 +4,20 @@ use Rattle.register.specs.ExportLaws.{words-within, words-taken, words-n
 use Rattle.register.proofs.register_words.Statement.{statement}
 use Rattle.register.proofs.register_words.Tie as tie
 
+asked-requires : tie.Need-asked-requires
+asked-requires c κs = search needs
+
 within-requires : tie.Need-within-requires
 within-requires c κs = search needs
 
 words-requires : tie.Need-words-requires
-words-requires c κs = words-within _ (c .before .within .ensures) (c .if1 .taken)
+words-requires c κs = words-within (c .before .within .ensures) (c .if1 .taken)
 
 returns : tie.Need-returns
-returns c = words-taken _ (c .before .before .within .ensures) (c .before .if1 .taken) (c .words .ensures)
+returns c = words-taken (c .before .before .before .asked .ensures) (c .before .before .within .ensures) (c .before .if1 .taken) (c .words .ensures)
 
 returns-2 : tie.Need-returns-2
-returns-2 c = words-none _ (c .before .within .ensures) (c .if1 .left)
+returns-2 c = words-none (c .before .before .asked .ensures) (c .before .within .ensures) (c .if1 .left)
 
 pub register-words-spec : {M : Type 1} → statement M
-register-words-spec = tie.close (tie.spec within-requires words-requires returns returns-2)
+register-words-spec = tie.close (tie.spec asked-requires within-requires words-requires returns returns-2)
