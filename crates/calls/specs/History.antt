@@ -7,6 +7,7 @@ use lib.Dec.{ltb, leb}
 use lib.ListN.{length}
 use Rattle.layout.specs.declared.settings.Settings.{Settings}
 use Rattle.layout.specs.Sizes.{rowLen, layoutLen}
+use Rattle.layout.specs.RefusalNumbers.{SETTINGS, SHORT-STORE, TIME-OPEN, EARLY, LATE, TAG, STANDING, NOT-STANDING, SHORT-BUFFER, OUT-OF-BLOCKS}
 use Rattle.layout.specs.Settings.{inLimits}
 use Rattle.calls.specs.Calls.{Query, LookBack, Call, Start, Set, Clear, Update, Advance, Ask, accepted}
 use Rattle.calls.specs.Refusals.{Test, isOpen}
@@ -67,28 +68,28 @@ outOfBlocks a after = ltb (a .settings .blocks) (length (after .blocks))
 
 -- a second that is OPEN, or is earlier than the clock
 abbrev pub accountTime : Account → ℕ → List Test → List Test
-accountTime a s l = record { number = 5; applies = isOpen s } ∷ record { number = 6; applies = ltb s (a .clock) } ∷ l
+accountTime a s l = record { number = TIME-OPEN; applies = isOpen s } ∷ record { number = EARLY; applies = ltb s (a .clock) } ∷ l
 
 -- of a clear or new reading, with the book that it would leave
 abbrev pub accountClear : Account → ℕ → ℕ → Book → List Test
 accountClear a s tag after =
-    accountTime a s (record { number = 8; applies = leb (a .settings .tags) tag }
-    ∷ record { number = 10; applies = not (among tag (soFar (a .log))) }
-    ∷ record { number = 13; applies = outOfBlocks a after } ∷ [])
+    accountTime a s (record { number = TAG; applies = leb (a .settings .tags) tag }
+    ∷ record { number = NOT-STANDING; applies = not (among tag (soFar (a .log))) }
+    ∷ record { number = OUT-OF-BLOCKS; applies = outOfBlocks a after } ∷ [])
 
 abbrev pub accountQuery : Account → Query → List Test
 accountQuery a (LookBack t rows list) =
-    record { number = 5; applies = isOpen t }
-    ∷ record { number = 7; applies = ltb (a .clock) t }
-    ∷ record { number = 11; applies = ltb (length rows) (rowLen * a .settings .tags) || ltb (length list) (a .settings .blocks) } ∷ []
+    record { number = TIME-OPEN; applies = isOpen t }
+    ∷ record { number = LATE; applies = ltb (a .clock) t }
+    ∷ record { number = SHORT-BUFFER; applies = ltb (length rows) (rowLen * a .settings .tags) || ltb (length list) (a .settings .blocks) } ∷ []
 
 abbrev pub accountTests : ℕ → Account → Call → List Test
 accountTests words a (Start s) =
-    record { number = 1; applies = not (inLimits s) } ∷ record { number = 4; applies = ltb words (layoutLen s) } ∷ []
+    record { number = SETTINGS; applies = not (inLimits s) } ∷ record { number = SHORT-STORE; applies = ltb words (layoutLen s) } ∷ []
 accountTests words a (Set s tag reading) =
-    accountTime a s (record { number = 8; applies = leb (a .settings .tags) tag }
-    ∷ record { number = 9; applies = among tag (soFar (a .log)) }
-    ∷ record { number = 13; applies = outOfBlocks a (bookSet s tag (a .book)) } ∷ [])
+    accountTime a s (record { number = TAG; applies = leb (a .settings .tags) tag }
+    ∷ record { number = STANDING; applies = among tag (soFar (a .log)) }
+    ∷ record { number = OUT-OF-BLOCKS; applies = outOfBlocks a (bookSet s tag (a .book)) } ∷ [])
 accountTests words a (Clear s tag) = accountClear a s tag (bookClear s tag (a .book))
 accountTests words a (Update s tag reading) = accountClear a s tag (bookUpdate s tag (a .book))
 accountTests words a (Advance s) = accountTime a s []

@@ -50,13 +50,13 @@ pub record ReadSome (chunk : List ℕ) (before : Running) (r : Part) (line store
   pub got : ℤ
   pub fed : FedRead got chunk before r line store rows list
 
--- Every read: the bytes read, one chunk after another, were fed.
+-- All reads: there are bytes that were fed, in order. (That they are the chunks of the reads, one after another, is read off `read_all`.)
 pub record ReadAll (before after : Running) : Type 0 where
   pub input : List ℕ
   pub fed : FedBytes input before after
 
--- A WHOLE RUN: for the bytes that were read, the lines that were handed on are the console's output. (64 bits count the lines. That the bytes left
--- unread once the run is over would change nothing is `unread` of console_run.)
+-- A WHOLE RUN: there are input bytes for which the lines handed on are the console's output. (That these are the bytes read is read off `read_all`; 64 bits
+-- count the lines; that bytes left unread once the run is over would change nothing is `unread` of console_run.)
 pub record Ran (before after : Sink) : Type 0 where
   pub input : List ℕ
   pub lines : List (List ℕ)

@@ -25,7 +25,7 @@ const STORE: usize = 16000;
 
 const LIST: usize = 4096;
 
-const ROWS: usize = print::ROW_WORDS * LIST;
+const ROWS: usize = print::ROW_LEN * LIST;
 
 // A run so far.
 struct Session {

@@ -26,7 +26,7 @@ fn opening_refusal(h: Head) -> u32
     ensures { λ r. ⌜ First (outTest h) r ⌝ }
 {
     if effect::all_opened(h) {
-        return refusal::BLOCKS_OUT;
+        return refusal::OUT_OF_BLOCKS;
     }
     0
 }
@@ -40,7 +40,7 @@ pub(crate) fn set_refusal(store: &[u32], h: Head, tag: u32) -> u32
         return refusal::TAG;
     }
     if address::read(store, h.settings, Address::Dir(tag)) != 0 {
-        return refusal::STANDS;
+        return refusal::STANDING;
     }
     if !effect::opens(h, 1) {
         return 0;
@@ -86,7 +86,7 @@ pub(crate) fn clear_refusal(store: &[u32], h: Head, tag: u32, more: u32) -> u32
     }
     let p = address::read(store, h.settings, Address::Dir(tag));
     if p == 0 {
-        return refusal::ABSENT;
+        return refusal::NOT_STANDING;
     }
     ending_refusal(store, h, tag, p, more)
 }

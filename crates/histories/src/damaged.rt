@@ -147,10 +147,10 @@ fn may(kind: u32, got: u32) -> bool {
     match got {
         0 | refusal::SHORT_HEAD | refusal::HEAD | refusal::SHORT_STORE | refusal::TIME_OPEN => true,
         refusal::EARLY => kind != LOOK_BACK,
-        refusal::LATE | refusal::BUFFERS => kind == LOOK_BACK,
-        refusal::TAG | refusal::BLOCKS_OUT => kind < ADVANCE,
-        refusal::STANDS => kind == SET,
-        refusal::ABSENT => between(CLEAR, kind, UPDATE),
+        refusal::LATE | refusal::SHORT_BUFFER => kind == LOOK_BACK,
+        refusal::TAG | refusal::OUT_OF_BLOCKS => kind < ADVANCE,
+        refusal::STANDING => kind == SET,
+        refusal::NOT_STANDING => between(CLEAR, kind, UPDATE),
         refusal::UNSOUND => kind != ADVANCE,
         _ => false,
     }

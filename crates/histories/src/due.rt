@@ -55,9 +55,9 @@ fn of_tag(notes: &mut Notes, c: Change) -> u32 {
         return 0;
     }
     if c.kind == SET {
-        refusal::STANDS
+        refusal::STANDING
     } else {
-        refusal::ABSENT
+        refusal::NOT_STANDING
     }
 }
 
@@ -80,7 +80,7 @@ pub fn change(notes: &mut Notes, c: Change) -> u32 {
     if book::takes(notes, c) {
         0
     } else {
-        refusal::BLOCKS_OUT
+        refusal::OUT_OF_BLOCKS
     }
 }
 
@@ -93,10 +93,10 @@ pub fn look_back(notes: &Notes, a: LookBack) -> u32 {
         return refusal::LATE;
     }
     if a.row_words < product(2, get(notes, log::TAGS)) {
-        return refusal::BUFFERS;
+        return refusal::SHORT_BUFFER;
     }
     if a.list_words < get(notes, log::BLOCKS) {
-        return refusal::BUFFERS;
+        return refusal::SHORT_BUFFER;
     }
     0
 }

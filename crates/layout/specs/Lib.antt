@@ -4,6 +4,7 @@ pub mod Address
 pub mod Memory
 pub mod Interp
 pub mod Program
+pub mod RefusalNumbers
 pub mod Settings
 pub mod Head
 pub mod Cursor

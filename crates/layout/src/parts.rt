@@ -81,7 +81,7 @@ pub fn slot_word(block: &[u32], k: u32, i: u32) -> u32
 }
 
 // Every word of a part set to zero.
-fn zero_all(part: &mut [u32])
+pub fn zero_all(part: &mut [u32])
     ensures { λ _. ⌜ now (part .exit) ≡ replicate (length (now (part .entry))) 0 ⌝ }
 {
     let mut i = 0;

@@ -1,4 +1,5 @@
 // The search in the index: from the top level's page down to the block that starts the path.
+use layout::PAGE;
 use layout::head::Head;
 use layout::parts;
 ghost use mathlib.Core.Path.{_≡_};
@@ -12,9 +13,6 @@ ghost use Rattle.calls.specs.Walk.{lastUpTo, entries as entriesOf, topLevel, lo
 ghost use Rattle.calls.specs.LookBack.{reader};
 ghost use Rattle.timeslice.specs.Searching.{pathStart, passOver, searchedOf, Level, OnPage, OnEntry};
 ghost use Rattle.timeslice.specs.Told.{Readable};
-
-// the words of a page
-const PAGE_LEN: u32 = 16;
 
 // The block that starts the path, 0 if there is none; the pages read, and on each level the page passed, OPEN if none.
 pub struct PathStart {
@@ -93,11 +91,11 @@ fn entries(opened: u32, l: u32) -> u32
     if l == 0 {
         return opened;
     }
-    let first = (opened + (PAGE_LEN - 1)) / PAGE_LEN;
+    let first = (opened + (PAGE - 1)) / PAGE;
     if l == 1 {
         return first;
     }
-    (first + (PAGE_LEN - 1)) / PAGE_LEN
+    (first + (PAGE - 1)) / PAGE
 }
 
 // The lowest level that has all entries on one page.
@@ -105,10 +103,10 @@ fn top_level(opened: u32) -> u32
     requires { ⌜ opened ≤ 4096 ⌝ }
     ensures { λ r. ⌜ r ≡ topLevel opened ⌝ }
 {
-    if entries(opened, 0) <= PAGE_LEN {
+    if entries(opened, 0) <= PAGE {
         return 0;
     }
-    if entries(opened, 1) <= PAGE_LEN {
+    if entries(opened, 1) <= PAGE {
         return 1;
     }
     2
@@ -120,11 +118,11 @@ fn on_page(opened: u32, l: u32, e: u32) -> u32
     requires { ⌜ pageLen * e < entriesOf opened l ⌝ }
     ensures { λ r. ⌜ r ≡ min pageLen (entriesOf opened l - pageLen * e) ⌝ }
 {
-    let left = entries(opened, l) - PAGE_LEN * e;
-    if left < PAGE_LEN {
+    let left = entries(opened, l) - PAGE * e;
+    if left < PAGE {
         return left;
     }
-    PAGE_LEN
+    PAGE
 }
 
 // What page e of level l gives: the page is a part in the middle of its level.
@@ -150,7 +148,7 @@ fn descend(store: &[u32], opened: u32, t: u32, l: u32, e: u32) -> Searched
     if k == 0 {
         return Searched::Unsound;
     }
-    match descend(store, opened, t, below, PAGE_LEN * e + (k - 1)) {
+    match descend(store, opened, t, below, PAGE * e + (k - 1)) {
         Searched::Unsound => Searched::Unsound,
         Searched::At(found) => Searched::At(found.passing(below, e)),
     }

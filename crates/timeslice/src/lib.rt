@@ -8,13 +8,14 @@ use index::Searched;
 use layout::head;
 use layout::head::Head;
 use layout::head::HeadAnswer;
+use layout::parts;
 use layout::refusal;
 use walk::Walked;
 ghost use mathlib.Core.Path.{_≡_};
 ghost use Rattle.layout.specs.Settings.{Within};
 ghost use Rattle.layout.specs.HeadLaws.{HeadRead};
 ghost use Rattle.calls.specs.Refusals.{refusal as refusalOf};
-ghost use Rattle.calls.specs.LookBack.{lookAt, zeros};
+ghost use Rattle.calls.specs.LookBack.{lookAt};
 ghost use Rattle.timeslice.specs.Told.{Readable, Buffers};
 ghost use Rattle.timeslice.specs.Answer.{LookedBack, Slices, Answers, ownTests};
 
@@ -59,23 +60,12 @@ fn turned_away(words: usize, h: Head, second: u32, rows: usize, list: usize) -> 
         return refusal::LATE;
     }
     if rows < layout::ROW_LEN * h.settings.tags as usize {
-        return refusal::BUFFERS;
+        return refusal::SHORT_BUFFER;
     }
     if list < h.settings.blocks as usize {
-        return refusal::BUFFERS;
+        return refusal::SHORT_BUFFER;
     }
     0
-}
-
-// Every word of a buffer set to zero.
-fn zero(buffer: &mut [u32])
-    ensures { λ _. ⌜ now (buffer .exit) ≡ zeros (now (buffer .entry)) ⌝ }
-{
-    let mut i = 0;
-    while i < buffer.len() {
-        buffer[i] = 0;
-        i += 1;
-    }
 }
 
 // Search, then the path from the block found.
@@ -112,8 +102,8 @@ fn answer(store: &[u32], h: Head, second: u32, rows: &mut [u32], list: &mut [u32
     match look(store, h, second, rows, list) {
         Sliced::Whole(slice) => Looked::Answered(slice),
         Sliced::Unsound => {
-            zero(rows);
-            zero(list);
+            parts::zero_all(rows);
+            parts::zero_all(list);
             Looked::Refused(refusal::UNSOUND)
         }
     }
