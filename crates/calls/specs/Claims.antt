@@ -20,7 +20,7 @@ use Rattle.layout.specs.Program.{runOn}
 use Rattle.layout.specs.Head.{headOf, placed}
 use Rattle.layout.specs.Standing.{slots, stands}
 use Rattle.layout.specs.Parts.{blockPart, levelPart, pagePart, slotWord}
-use Rattle.calls.specs.Calls.{Query, LookBack, buffersOf, Call, Start, Set, Clear, Update, Advance, Ask, View, Done, Shown, Refused, accepted}
+use Rattle.calls.specs.Calls.{Query, LookBack, buffersOf, Call, Start, Set, Clear, Update, Advance, Ask, View, Answer, Done, Shown, Refused, accepted}
 use Rattle.calls.specs.Placing.{placeOf, setProgram, clearProgram, updateProgram, advanceProgram}
 use Rattle.calls.specs.Walk.{Pass, looked, rowOf}
 use Rattle.calls.specs.Refusals.{Test, opens, acceptorCloses, bitsOf, tagBlock, closes, copies, afterClear}
@@ -106,6 +106,25 @@ module _ (h : Head) (f : Memory) where
   ForetoldOf (Advance s) = Foretold h f s 0 (λ n. false) (runOn (advanceProgram (h .settings) (h .cursor) s) f)
   ForetoldOf (Ask q) = Unit {0}
 
+-- ---- what may be answered to which call
+abbrev pub NoView : Answer → Type 0
+NoView (Done h) = Unit {0}
+NoView (Shown v) = ⊥
+NoView (Refused n) = Unit {0}
+
+abbrev pub NoHead : Answer → Type 0
+NoHead (Done h) = ⊥
+NoHead (Shown v) = Unit {0}
+NoHead (Refused n) = Unit {0}
+
+abbrev pub KindOf : Call → Answer → Type 0
+KindOf (Start s) a = NoView a
+KindOf (Set s tag reading) a = NoView a
+KindOf (Clear s tag) a = NoView a
+KindOf (Update s tag reading) a = NoView a
+KindOf (Advance s) a = NoView a
+KindOf (Ask q) a = NoHead a
+
 pub record EveryCall (ws : List ℕ) (c : Call) : Type 0 where
   -- a call is accepted if and only if no listed refusal applies
   pub accepted-iff : (accepted (step ws c .answer) ≡ true) ↔ All (λ x. x .applies ≡ false) (testsOf ws c)
@@ -116,6 +135,8 @@ pub record EveryCall (ws : List ℕ) (c : Call) : Type 0 where
   pub buffers-kept : (n : ℕ) → step ws c .answer ≡ Refused n → n ≢ 12 → step ws c .lent ≡ lentBy c
   -- except that refusal 12 of a look-back fills both its buffers with zeros
   pub buffers-zero : step ws c .answer ≡ Refused 12 → step ws c .lent ≡ zeroed (lentBy c)
+  -- a query is answered with no head, and any other call with no view: an accepted change hands back the next head
+  pub head-or-view : KindOf c (step ws c .answer)
   -- the head that is handed back is the head of the words left
   pub head-stored : (h : Head) → step ws c .answer ≡ Done h → headOf (step ws c .store) ≡ h
   -- what the tests foretell

@@ -2,14 +2,13 @@
 -- What the operating system read or wrote no contract can say: the input is the bytes that the reads left in their buffer, the output the lines
 -- that were handed to `emit`.
 use mathlib.Core.Path.{_≡_}
-use mathlib.Core.List.{List, _∷_}
+use mathlib.Core.List.{List}
 use Prim.Native.Nat.{ℕ, _+_, _<_}
 use lib.IntN.{ℤ}
 use lib.ListN.{length, take}
 use Rattle.io.specs.Counts.{clamped}
-use Rattle.console_text.specs.Output.{outputNames}
 use Rattle.console_run.specs.Console.{joined, consoleOutput}
-use Rattle.console_run.specs.Feed.{State, state, fed, fedAll, stepLines, fedLines, finishLines}
+use Rattle.console_run.specs.Feed.{State, state, fed, fedAll, stepLines, fedLines}
 use Rattle.console_run.specs.FeedLaws.{afterByte}
 use Rattle.console_io.specs.declared.sink.Sink.{Sink}
 use Rattle.console_io.specs.declared.Session.{Session}

@@ -1,8 +1,8 @@
 -- A session step by step: a byte, bytes by a count, a chunk, chunk after chunk, and the whole run. Rests on the lines' laws of console_run.
-use mathlib.Core.Path.{_≡_, refl, sym, ap, _∙_, subst}
+use mathlib.Core.Path.{_≡_, sym, ap, _∙_, subst}
 use mathlib.Core.Bool.{true, false}
 use mathlib.Core.List.{List, [], _∷_, _++_}
-use Prim.Native.Nat.{ℕ, suc, _+_, _≤_, _<_}
+use Prim.Native.Nat.{ℕ, _+_, _≤_, _<_}
 use native.Mathlib.Omega.{arith}
 use native.Mathlib.Numerals.{add-one}
 use lib.IntN.{ℤ}
@@ -13,9 +13,9 @@ use Rattle.console_text.specs.Output.{outputNames}
 use Rattle.console_run.specs.declared.feed.Console.{Console}
 use Rattle.console_run.specs.declared.feed.Step.{Step}
 use Rattle.console_run.specs.declared.turn.Said.{Said}
-use Rattle.console_run.specs.Console.{Lent, saidLines, missing, joined, blank, consoleOutput}
-use Rattle.console_run.specs.Feed.{Stepped, stepped, begun, fed, lastTaken, isOver, State, state, fedAll, fedLines, finishLines, runLines}
-use Rattle.console_run.specs.FeedLaws.{afterByte, all-none, all-over, all-more, in-chunks}
+use Rattle.console_run.specs.Console.{Lent, saidLines, missing, blank}
+use Rattle.console_run.specs.Feed.{stepped, begun, fed, lastTaken, isOver, State, state, finishLines, runLines}
+use Rattle.console_run.specs.FeedLaws.{all-none, all-over, all-more, in-chunks}
 use Rattle.console_run.specs.SaidLaws.{lines-none, lines-over, lines-more, lines-in-chunks, run-output}
 use Rattle.console_io.specs.declared.sink.Sink.{Sink}
 use Rattle.console_io.specs.declared.Session.{Session}

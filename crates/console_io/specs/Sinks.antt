@@ -1,6 +1,5 @@
 -- WHERE OUTPUT LINES GO: what a line that is handed to `emit` makes of a sink, and lines one after another. Which bytes a descriptor takes or
 -- gives no contract can say: of a compared line, that it was equal or not.
-use mathlib.Core.Path.{_≡_}
 use mathlib.Core.List.{List, [], _∷_}
 use Prim.Native.Nat.{ℕ}
 use lib.IntN.{ℤ}

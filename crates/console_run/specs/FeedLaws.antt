@@ -19,7 +19,6 @@ use Rattle.console_run.specs.declared.turn.Stage.the-variants.{SettingsN
 use Rattle.console_run.specs.declared.turn.Said.the-variants.{Nothing}
 use Rattle.console_run.specs.declared.turn.Turn.{Turn}
 use Rattle.console_run.specs.declared.feed.Console.{Console}
-use Rattle.console_run.specs.declared.feed.Step.{Step}
 use Rattle.console_run.specs.Console.{Lent, does, textDoes, lineDoes, saidLines, joined, saidBytes, missing, consoleFrom, blank, consoleOutput}
 use Rattle.console_run.specs.Feed.{Stepped, stepped, begun, nextNumber, quiet, taken, fedBy, fed, lastTaken, isOver, State, fedAll, stepBytes, finish, driven}
 

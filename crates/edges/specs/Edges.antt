@@ -9,6 +9,7 @@ use Rattle.calls.specs.History.{wordsAfter}
 use Rattle.edges.specs.EdgesStores.{settings, three, toThree}
 use Rattle.edges.specs.EdgesHead.{StartEdges, HeadEdges}
 use Rattle.edges.specs.EdgesChange.{TagEdges, PlaceEdges, TagBlockEdges, AcceptorEdges, RoomEdges}
+use Rattle.edges.specs.EdgesWords.{WordEdges}
 use Rattle.edges.specs.EdgesLookBack.{AskEdges, WalkEdges, PageEdges}
 
 pub record Edges : Type 0 where
@@ -31,3 +32,5 @@ pub record Edges : Type 0 where
   -- 12: path and visits, and the pages of the index
   pub walk : WalkEdges
   pub page : PageEdges
+  -- words that are written, and words that are not
+  pub words : WordEdges

@@ -26,6 +26,7 @@ use Rattle.edges.specs.EdgesChange.{TagEdges, PlaceEdges, TagBlockEdges,
 use Rattle.edges.specs.EdgesLookBack.{AskEdges, WalkEdges, PageEdges}
 use Rattle.edges.specs.Edges.{Edges}
 use Rattle.edges.specs.EdgesHeadProof.{start-edges, head-edges}
+use Rattle.edges.specs.EdgesWordsProof.{word-edges}
 
 three-left : wordsAfter (step (replicate 4586 9) (Start settings) .store) toThree ≡ three
 unfolding three bitAt withBit withoutBit bitsFrom slotsOf blockLen layoutLen each inLimits headOf headWords withHead cleared badHead placed storeCursor stands raised lowered readWord writeWord wipeBlock over enterTime openBlock unlink endRecord standing putRecord moveRecord closeFull judgeFull roll makeRoom place replace close judge clearTag finish setProgram clearProgram badPlace badBlock unsoundSet unsoundClear blocksOut start set clear
@@ -245,4 +246,5 @@ edges = record {
   ask = ask-edges;
   walk = walk-edges;
   page = page-edges;
+  words = word-edges;
 }

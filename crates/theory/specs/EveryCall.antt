@@ -21,7 +21,7 @@ use Rattle.layout.specs.OnWords.{over}
 use Rattle.calls.specs.Calls.{Call, Start, Set, Clear, Update, Advance, Ask, Answer, Done, Refused, accepted, Reply}
 use Rattle.calls.specs.Placing.{setProgram, clearProgram, updateProgram, advanceProgram}
 use Rattle.calls.specs.Refusals.{Test, refusal}
-use Rattle.calls.specs.Claims.{First, EveryCall, lentBy, zeroed}
+use Rattle.calls.specs.Claims.{First, EveryCall, NoView, KindOf, lentBy, zeroed}
 use Rattle.calls.specs.Step.{step, testsOf, reply, change, set, clear, update, advance, start, freshHead}
 use Rattle.theory.specs.Started.{started, started-length}
 use Rattle.theory.specs.TestLaws.{numbered, Decided, free, turned, refused, clash}
@@ -37,6 +37,7 @@ pub record Fair (l : List Test) (ws : List ℕ) (r : Reply) : Type 0 where
   pub refused-first : (n : ℕ) → r .answer ≡ Refused n → First l n
   pub store-kept : (n : ℕ) → r .answer ≡ Refused n → r .store ≡ ws
   pub lent-none : r .lent ≡ []
+  pub no-view : NoView (r .answer)
   pub same-length : length (r .store) ≡ length ws
 
 pub reply-fair : (l : List Test) (ws : List ℕ) (h : Head) (after : List ℕ) → numbered l ≡ true
@@ -49,6 +50,7 @@ reply-fair l ws h after k long = go (refusal l) (refused l k)
       refused-first = λ n e. never-refused e;
       store-kept = λ n e. never-refused e;
       lent-none = refl;
+      no-view = tt;
       same-length = long a;
     }
     go n (turned p f) = rw (ne-eqb n 0 (omega arith)) (record {
@@ -56,6 +58,7 @@ reply-fair l ws h after k long = go (refusal l) (refused l k)
       refused-first = λ m e. let z : n ≡ m = cc in rw z at f;
       store-kept = λ m e. refl;
       lent-none = refl;
+      no-view = tt;
       same-length = refl;
     })
 
@@ -68,14 +71,23 @@ asks (Update s tag reading) = false
 asks (Advance s) = false
 asks (Ask q) = true
 
+no-query : (c : Call) (a : Answer) → asks c ≡ false → NoView a → KindOf c a
+no-query (Start s) a k n = n
+no-query (Set s tag reading) a k n = n
+no-query (Clear s tag) a k n = n
+no-query (Update s tag reading) a k n = n
+no-query (Advance s) a k n = n
+no-query (Ask q) a k n = absurd (true≢false k)
+
 -- the claim, of a call that is lent no buffer
 fair-every : {ws : List ℕ} {c : Call} → asks c ≡ false → lentBy c ≡ [] → Fair (testsOf ws c) ws (step ws c) → DoneOn ws c → EveryCall ws c
-fair-every k r f d = record {
+fair-every {ws} {c} k r f d = record {
   accepted-iff = f .accepted-iff;
   refused-first = f .refused-first;
   store-kept = f .store-kept;
   buffers-kept = λ n e d. f .lent-none ∙ sym r;
   buffers-zero = λ e. f .lent-none ∙ sym (ap zeroed r);
+  head-or-view = no-query c (step ws c .answer) k (f .no-view);
   head-stored = d .head-stored;
   foretold = d .foretold;
   small = d .small;

@@ -10,15 +10,14 @@ use lib.ListN.{length, getD, length-append, length-drop}
 use borrow.Author.Tests.{ne-eqb, ltb-false}
 use Rattle.base.specs.Branch.{is?, or-false}
 use Rattle.base.specs.Sums.{All, nil, cons}
-use Rattle.layout.specs.declared.head.Head.{Head}
 use Rattle.layout.specs.Sizes.{OPEN, mark, rowLen}
 use Rattle.layout.specs.Fields.{headMark}
 use Rattle.layout.specs.Settings.{inLimits}
 use Rattle.layout.specs.Head.{headOf, badHead, fillFits, spareZero}
-use Rattle.calls.specs.Calls.{Call, Start, Set, Clear, Update, Advance, Ask, LookBack, Row, Done, Shown, Refused}
+use Rattle.calls.specs.Calls.{Call, Start, Set, Clear, Update, Advance, Ask, LookBack, Row, Refused}
 use Rattle.calls.specs.Walk.{Pass, Looked, unsoundly, looked}
 use Rattle.calls.specs.Refusals.{Test, refusal, lookBackTests}
-use Rattle.calls.specs.LookBack.{SliceReply, lookAt, lookBack, seen, viewOf, isUnsound, rowWords, written, reader}
+use Rattle.calls.specs.LookBack.{SliceReply, lookAt, lookBack, seen, isUnsound, rowWords, written, reader}
 use Rattle.calls.specs.Step.{QueryReply}
 use Rattle.calls.specs.Claims.{First, EveryCall}
 use Rattle.theory.specs.LookFits.{look-fits}
@@ -79,10 +78,7 @@ module _ (ws : List ℕ) (t : ℕ) (rows list : List ℕ) where
   fair-look : (w : Looked) → lookAt ws t ≡ w → (n : ℕ) → n ≡ refusal (tests (isUnsound w)) → Decided (tests (isUnsound w)) n → Fair w n
   fair-look unsoundly e zero k (free a) = absurd (not-free a)
   fair-look unsoundly e n k (turned p f) = is? n 12 (λ z. rw z (unsound-query refl (rw z at f))) (λ d. turned-look unsoundly n p d f)
-  fair-look (looked r l ps) e zero k (free a) = let z = fits r l ps e a in answered-query refl no-head a (ap₂ (λ (x y : ℕ). x ∷ y ∷ []) (z .0) (z .1))
-    where
-      no-head : (h : Head) → Shown (viewOf r l ps) ≢ Done h
-      no-head h e = let z : _≡_ {A = ℕ} 0 1 = cc in omega arith
+  fair-look (looked r l ps) e zero k (free a) = let z = fits r l ps e a in answered-query refl tt a (ap₂ (λ (x y : ℕ). x ∷ y ∷ []) (z .0) (z .1))
   fair-look (looked r l ps) e n k (turned p f) = turned-look (looked r l ps) n p (λ z. sound-never (sym k ∙ z)) f
 
   pub every-look-back : EveryCall ws (Ask (LookBack t rows list))

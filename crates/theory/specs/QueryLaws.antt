@@ -1,6 +1,6 @@
 -- EVERY QUERY ON ANY WORDS: what its reply must be (FairQuery), the three ways to reply, and that what is claimed of every call then holds of the query
 -- (every-query), whichever it is: it leaves the store, and so book, log and account, as they are.
-use mathlib.Core.Path.{_≡_, refl, sym, ap, _∙_}
+use mathlib.Core.Path.{_≡_, refl, sym, ap, _∙_, subst}
 use mathlib.Core.Logic.{_≢_, _↔_}
 use mathlib.Core.Bool.{true, false, true≢false}
 use mathlib.Core.List.{List, [], _∷_, map}
@@ -8,11 +8,10 @@ use Prim.Native.Nat.{ℕ}
 use native.Mathlib.Omega.{arith}
 use lib.ListN.{length, length-replicate}
 use Rattle.base.specs.Sums.{All}
-use Rattle.layout.specs.declared.head.Head.{Head}
-use Rattle.calls.specs.Calls.{Query, buffersOf, Ask, Answer, Done, Refused, accepted}
+use Rattle.calls.specs.Calls.{Query, buffersOf, Ask, Answer, Refused, accepted}
 use Rattle.calls.specs.Refusals.{Test}
 use Rattle.calls.specs.Step.{QueryReply, answerTo, queryTests}
-use Rattle.calls.specs.Claims.{First, EveryCall, zeroed}
+use Rattle.calls.specs.Claims.{First, EveryCall, NoHead, zeroed}
 use Rattle.theory.specs.TestLaws.{clash}
 use Rattle.theory.specs.OneChange.{small-same}
 
@@ -22,7 +21,7 @@ pub record FairQuery (l : List Test) (before : List (List ℕ)) (r : QueryReply)
   pub refused-first : (n : ℕ) → r .answer ≡ Refused n → First l n
   pub buffers-kept : (n : ℕ) → r .answer ≡ Refused n → n ≢ 12 → r .lent ≡ before
   pub buffers-zero : r .answer ≡ Refused 12 → r .lent ≡ zeroed before
-  pub no-head : (h : Head) → r .answer ≢ Done h
+  pub no-head : NoHead (r .answer)
   pub same-lengths : map length (r .lent) ≡ map length before
 
 zeroed-lengths : (before : List (List ℕ)) → map length (zeroed before) ≡ map length before
@@ -31,7 +30,7 @@ zeroed-lengths (x ∷ l) = rw (length-replicate {A = ℕ} (length x) 0, zeroed-l
 
 module _ {l : List Test} {before : List (List ℕ)} where
   -- answered
-  pub answered-query : {a : Answer} {lent : List (List ℕ)} → accepted a ≡ true → ((h : Head) → a ≢ Done h) → All (λ x. x .applies ≡ false) l
+  pub answered-query : {a : Answer} {lent : List (List ℕ)} → accepted a ≡ true → NoHead a → All (λ x. x .applies ≡ false) l
       → map length lent ≡ map length before → FairQuery l before (record { answer = a; lent = lent })
   answered-query t h f k = record {
     accepted-iff = (λ e. f, λ e. t);
@@ -49,7 +48,7 @@ module _ {l : List Test} {before : List (List ℕ)} where
     refused-first = λ m e. let z : n ≡ m = cc in rw z at f;
     buffers-kept = λ m e c. refl;
     buffers-zero = λ e. let z : n ≡ 12 = cc in absurd (d z);
-    no-head = λ h e. let z : _≡_ {A = ℕ} 0 1 = cc in omega arith;
+    no-head = tt;
     same-lengths = refl;
   }
 
@@ -60,7 +59,7 @@ module _ {l : List Test} {before : List (List ℕ)} where
     refused-first = λ m e. let z : n ≡ m = cc in rw z at f;
     buffers-kept = λ m q c. let z : n ≡ m = cc in absurd (c (sym z ∙ e));
     buffers-zero = λ e. refl;
-    no-head = λ h e. let z : _≡_ {A = ℕ} 0 1 = cc in omega arith;
+    no-head = tt;
     same-lengths = zeroed-lengths before;
   }
 
@@ -71,7 +70,8 @@ every-query ws q f = record {
   store-kept = λ n e. refl;
   buffers-kept = f .buffers-kept;
   buffers-zero = f .buffers-zero;
-  head-stored = λ h e. absurd (f .no-head h e);
+  head-or-view = f .no-head;
+  head-stored = λ h e. absurd (subst NoHead e (f .no-head));
   foretold = λ a. tt;
   small = λ k. small-same ws;
   same-lengths = (refl, f .same-lengths);
