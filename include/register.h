@@ -1,8 +1,8 @@
 /* register.h - the look-back register of a rope tension monitor, proved: the calls of libregister.a, and their manual.
  *
  * A register keeps conditions (a tag with a reading in daN: a tension outside its band, a sheave off, a gauge in
- * doubt) as they are set, cleared and given new readings. A look-back tells what stood at any past second; it reads
- * only blocks that were open then, and at most as many again. The code is written in Rattle, and a checker has proved
+ * doubt) as they are set, cleared and given new readings. A look-back tells what stood at any past second; it lists
+ * at most twice as many blocks as were open then. The code is written in Rattle, and a checker has proved
  * that each call answers and writes what its definition says for every content of the lent words, honest or not.
  * Document 01 is the paper that it renders, docs/LAYOUT.md has the words of a store.
  *
@@ -188,7 +188,7 @@ enum register_answer {
 };
 
 /* What stood at a second up to the clock; at the clock, the state so far. rows gets tag and reading of each row, list
- * the numbers, from 1, of the blocks read, answer the six words above; words after these keep their contents, and a
+ * the numbers, from 1, of the blocks listed, answer the six words above; words after these keep their contents, and a
  * refusal leaves answer as it was. The store is only read. Refusals 2 to 5, 7, 11, 12. */
 uint32_t register_look_back(const uint32_t *store, size_t words, uint32_t second, uint32_t *rows, size_t rows_words,
                             uint32_t *list, size_t list_words, uint32_t answer[REGISTER_ANSWER_WORDS]);

@@ -104,7 +104,7 @@ pub fn apply(store: &mut [u32], entry: Entry) -> u32 {
     }
 }
 
-/// What stood at a second. `rows` gets tag and reading of each row, `list` the numbers of the blocks read, `answer` the
+/// What stood at a second. `rows` gets tag and reading of each row, `list` the numbers of the blocks listed, `answer` the
 /// numbers of rows, pages read and blocks listed and the page passed on each level, [`OPEN`](crate::OPEN) if none.
 /// Words after these keep their contents, and a refusal leaves `answer`.
 /// Refusals 2 to 5, 7, 11, 12.

@@ -1,8 +1,8 @@
 //! The look-back register of a rope tension monitor, proved, for programs in Rust.
 //!
 //! A register keeps *conditions* (a tag with a reading: a tension outside its band, a sheave off, a gauge in doubt) as
-//! they are set, cleared and given new readings. A look-back tells what stood at any past second, and reads only blocks
-//! that were open then, and at most as many again. The code behind this crate, `libregister.a`, is written in Rattle,
+//! they are set, cleared and given new readings. A look-back tells what stood at any past second, and lists at
+//! most twice as many blocks as were open then. The code behind this crate, `libregister.a`, is written in Rattle,
 //! and a checker has proved that each call does what its definition says on whatever words it is lent. This wrapper
 //! is not proved: it passes slices to that code and gives its answers Rust's types.
 //!
