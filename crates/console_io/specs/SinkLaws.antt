@@ -1,7 +1,7 @@
 -- Lines handed to a sink: one line that was printed, some after others, and all of them by a count.
 use mathlib.Core.Path.{_≡_}
 use mathlib.Core.List.{List, [], _++_}
-use Prim.Native.Nat.{ℕ, _+_, _≤_, _<_}
+use Prim.Native.Nat.{ℕ, _+_, _≤_, _<_, _-_}
 use native.Mathlib.Omega.{arith}
 use native.Mathlib.Numerals.{add-one}
 use lib.IntN.{ℤ}
@@ -14,8 +14,8 @@ use Rattle.console_run.specs.Console.{saidLines}
 use Rattle.console_run.specs.Feed.{nextNumber}
 use Rattle.console_run.specs.PrintLaws.{lineCount, said-count}
 use Rattle.console_io.specs.declared.sink.Sink.{Sink}
-use Rattle.console_io.specs.declared.sink.Sink.the-variants.{Write, Compare, Differs}
-use Rattle.console_io.specs.Sinks.{Emitted, written, equal, other, late, Sent, none, next, FirstDifference, unasked, whole, short, found}
+use Rattle.console_io.specs.declared.sink.Sink.the-variants.{Write, Compare, Differs, Pick}
+use Rattle.console_io.specs.Sinks.{Emitted, written, equal, other, late, picked, Sent, none, next, FirstDifference, unasked, whole, short, found, uncompared}
 
 -- ---- one line
 
@@ -31,6 +31,9 @@ module _ {a : Sink} {line : List ℕ} where
 
   pub emit-late : {n : ℕ} → a ≡ Differs n → Emitted line a a
   emit-late {n} e = rw e (late n)
+
+  pub emit-picked : {fd same : ℤ} {n m : ℕ} → a ≡ Pick fd n → same ≡ fd → m ≡ n - 1 → Emitted line a (Pick same m)
+  emit-picked {fd} {same} {n} e g f = rw (e, g, f) (picked fd n)
 
 -- The same line by another name.
 pub emit-as : {a b : Sink} {line same : List ℕ} → same ≡ line → Emitted same a b → Emitted line a b
@@ -48,6 +51,9 @@ module _ {a : Sink} where
 
   pub differs-found : {n : ℕ} → a ≡ Differs n → FirstDifference a n
   differs-found {n} e = rw e (found n)
+
+  pub differs-uncompared : {fd : ℤ} {n : ℕ} → a ≡ Pick fd n → FirstDifference a 0
+  differs-uncompared {fd} {n} e = rw e (uncompared fd n)
 
 -- What is printed into a buffer with room is the line.
 pub printed-line : {text before after : List ℕ} {r : ℕ} → Printed text before r after → length before ≡ 64 → take r after ≡ text

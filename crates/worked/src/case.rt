@@ -1,6 +1,9 @@
 // One worked case: NAME.in through the console, against NAME.out.
 use console_io::sink;
+use console_io::sink::Next;
 use console_io::sink::Sink;
+use console_run::feed::COUNT_MOST;
+use console_run::feed::next_number;
 use console_text::gather::LINE_MOST;
 use libc::STDOUT_FILENO;
 
@@ -51,6 +54,46 @@ fn tell(line: &[u8], len: usize, what: &[u8]) {
     io::write_all(STDOUT_FILENO, what);
 }
 
+// One line of what a descriptor gives, counted from 1.
+fn show_line(fd: i32, number: u64) {
+    let mut at: u64 = 1;
+    let mut bytes = COUNT_MOST;
+    while 0 < bytes {
+        let Next::Byte(byte) = sink::next_byte(fd) else {
+            io::write_all(STDOUT_FILENO, b"(no such line)\n");
+            return;
+        };
+        if at == number {
+            let one = [byte];
+            io::write_all(STDOUT_FILENO, &one);
+        }
+        if byte == b'\n' {
+            if at == number {
+                return;
+            }
+            at = next_number(at);
+        }
+        bytes -= 1;
+    }
+}
+
+fn show_expected(line: &mut [u8; LINE_MOST], len: usize, number: u64) {
+    let expected = open_out(line, len);
+    show_line(expected, number);
+    libc::close(expected);
+}
+
+// The console runs once more, and of its lines that one alone is written.
+fn show_printed(line: &mut [u8; LINE_MOST], len: usize, number: u64) {
+    let input = open_in(line, len);
+    if let Sink::Pick(_, left) = console_io::run(input, Sink::Pick(STDOUT_FILENO, number)) {
+        if left != 0 {
+            io::write_all(STDOUT_FILENO, b"(no such line)\n");
+        }
+    }
+    libc::close(input);
+}
+
 // Whether the case that the first `len` bytes of a line of `cases` name agrees; if not, it says so.
 pub(crate) fn agrees(line: &mut [u8; LINE_MOST], len: usize) -> bool {
     let input = open_in(line, len);
@@ -71,6 +114,9 @@ pub(crate) fn agrees(line: &mut [u8; LINE_MOST], len: usize) -> bool {
     }
     tell(line, len, b": the output differs at line ");
     io::print_decimal(STDOUT_FILENO, difference);
-    io::write_all(STDOUT_FILENO, b"\n");
+    io::write_all(STDOUT_FILENO, b"\nexpected: ");
+    show_expected(line, len, difference);
+    io::write_all(STDOUT_FILENO, b"printed:  ");
+    show_printed(line, len, difference);
     false
 }

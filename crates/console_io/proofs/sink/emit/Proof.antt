@@ -1,5 +1,5 @@
 -- `sink::emit` meets its contract: the line is written or compared.
-use Rattle.console_io.specs.SinkLaws.{emit-written, emit-equal, emit-other, emit-late}
+use Rattle.console_io.specs.SinkLaws.{emit-written, emit-equal, emit-other, emit-late, emit-picked}
 use borrow.Author.Needs.{needs}
 use Rattle.console_io.proofs.sink.emit.Statement.{statement}
 use Rattle.console_io.proofs.sink.emit.Tie as tie
@@ -22,6 +22,12 @@ gives-all-requires c κs = search needs
 enum-told : tie.Need-enum-told
 enum-told c = search needs
 
+enum-known-sink-3 : tie.Need-enum-known-sink-3
+enum-known-sink-3 c = search needs
+
+pass-requires : tie.Need-pass-requires
+pass-requires c κs = search needs
+
 returns : tie.Need-returns
 returns c = emit-written (c .before .before .sink .given .1)
 
@@ -34,6 +40,9 @@ returns-3 c = emit-other (c .before .before .before .before .sink2 .given .1) (c
 returns-4 : tie.Need-returns-4
 returns-4 c = emit-late (c .enum-told .given .1)
 
+returns-5 : tie.Need-returns-5
+returns-5 c = emit-picked (c .before .before .sink3 .given .1) (search needs) (c .pass .ensures)
+
 pub emit-spec : {M : Type 1} → statement M
 emit-spec =
     tie.close
@@ -44,7 +53,10 @@ emit-spec =
     next-number-requires
     gives-all-requires
     enum-told
+    enum-known-sink-3
+    pass-requires
     returns
     returns-2
     returns-3
-    returns-4)
+    returns-4
+    returns-5)
