@@ -1,5 +1,5 @@
--- A JOURNAL OF CHANGES and what a replay of it leaves: the run of its history (calls.specs.History). Five words an entry: its kind and four numbers,
--- of which a kind uses the first ones. An entry of another kind ends the journal, and so does one that is cut short.
+-- A JOURNAL OF CHANGES and what a replay of it leaves: the run of its history (calls.specs.History). Six words an entry: its kind and five numbers,
+-- of which a kind uses the first ones. An entry of no kind ends the journal (0 is none), and so does one that is cut short.
 use mathlib.Core.Path.{_≡_}
 use mathlib.Core.Bool.{cond}
 use mathlib.Core.List.{List, [], _∷_}
@@ -7,14 +7,15 @@ use Prim.Native.Nat.{ℕ, _+_}
 use lib.Dec.{eqb}
 use lib.ListN.{length, getD}
 use Rattle.base.specs.Sums.{is}
+use Rattle.layout.specs.Settings.{settingsOf}
 use Rattle.calls.specs.Calls.{Call, Start, Set, Clear, Update, Advance, accepted}
 use Rattle.calls.specs.Step.{step}
 use Rattle.calls.specs.History.{Heard, wordsAfter, trace}
 use Rattle.changes.specs.declared.Change.{Change}
 use Rattle.changes.specs.declared.Change.the-variants as change
 use Rattle.applying.specs.declared.journal.Tally.{Tally}
-use Rattle.applying.specs.declared.journal.Entered.{Entered}
-use Rattle.applying.specs.declared.journal.Entered.the-variants.{Told, Other}
+use Rattle.applying.specs.declared.journal.Played.{Played}
+use Rattle.applying.specs.declared.journal.Played.the-variants.{Counts, Ends}
 
 -- an entry: a change, or none that is known
 pub data Entry : Type 0 where
@@ -23,11 +24,11 @@ pub data Entry : Type 0 where
 
 abbrev pub entryOf : ℕ → ℕ → ℕ → ℕ → ℕ → Entry
 entryOf kind a b c d =
-    cond (eqb kind 0) (says (Start a b c d))
-    (cond (eqb kind 1) (says (Set a b c))
-    (cond (eqb kind 2) (says (Clear a b))
-    (cond (eqb kind 3) (says (Update a b c))
-    (cond (eqb kind 4) (says (Advance a))
+    cond (eqb kind 1) (says (Start (settingsOf a b c d)))
+    (cond (eqb kind 2) (says (Set a b c))
+    (cond (eqb kind 3) (says (Clear a b))
+    (cond (eqb kind 4) (says (Update a b c))
+    (cond (eqb kind 5) (says (Advance a))
     nothing))))
 
 abbrev pub before : Entry → List Call → List Call
@@ -41,7 +42,8 @@ journalOf (kind ∷ []) = []
 journalOf (kind ∷ a ∷ []) = []
 journalOf (kind ∷ a ∷ b ∷ []) = []
 journalOf (kind ∷ a ∷ b ∷ c ∷ []) = []
-journalOf (kind ∷ a ∷ b ∷ c ∷ d ∷ rest) = before (entryOf kind a b c d) (journalOf rest)
+journalOf (kind ∷ a ∷ b ∷ c ∷ d ∷ []) = []
+journalOf (kind ∷ a ∷ b ∷ c ∷ d ∷ e ∷ rest) = before (entryOf kind a b c d) (journalOf rest)
 
 -- how many calls were accepted
 abbrev pub acceptedIn : List Heard → ℕ
@@ -55,23 +57,23 @@ pub record Replayed (ws journal : List ℕ) (r : Tally) (ws′ : List ℕ) : Typ
   pub accepted : r .accepted ≡ acceptedIn (trace ws (journalOf journal))
 
 -- ---- the parts: one entry
-abbrev pub enteredBy : Change → Entered
-enteredBy (change.Done h) = Told 1
-enteredBy (change.Refused n) = Told 0
+abbrev pub countsAs : Change → Played
+countsAs (change.Done h) = Counts 1
+countsAs (change.Refused n) = Counts 0
 
 -- the entry that begins at a place
 abbrev pub entryAt : List ℕ → ℕ → Entry
 entryAt j at = entryOf (getD j at 0) (getD j (at + 1) 0) (getD j (at + 2) 0) (getD j (at + 3) 0) (getD j (at + 4) 0)
 
 -- what an entry does, and the words after it
-abbrev pub entering : List ℕ → Entry → Entered
-entering ws (says c) = Told (is (accepted (step ws c .answer)))
-entering ws nothing = Other
+abbrev pub playing : List ℕ → Entry → Played
+playing ws (says c) = Counts (is (accepted (step ws c .answer)))
+playing ws nothing = Ends
 
 abbrev pub afterEntry : List ℕ → Entry → List ℕ
 afterEntry ws (says c) = step ws c .store
 afterEntry ws nothing = ws
 
-pub record Entering (ws : List ℕ) (e : Entry) (r : Entered) (ws′ : List ℕ) : Type 0 where
-  pub told : r ≡ entering ws e
+pub record Plays (ws : List ℕ) (e : Entry) (r : Played) (ws′ : List ℕ) : Type 0 where
+  pub counted : r ≡ playing ws e
   pub store : ws′ ≡ afterEntry ws e

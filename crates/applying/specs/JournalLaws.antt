@@ -15,63 +15,64 @@ use Rattle.changes.specs.declared.Change.{Change}
 use Rattle.changes.specs.declared.Change.the-variants as change
 use Rattle.changes.specs.Replied.{Replied, answerOf}
 use Rattle.theory.specs.EveryLookBack.{every-call}
-use Rattle.applying.specs.declared.journal.Tally.{Tally}
-use Rattle.applying.specs.declared.journal.Entered.{Entered}
-use Rattle.applying.specs.declared.journal.Entered.the-variants.{Told, Other}
-use Rattle.applying.specs.Journal.{Entry, says, nothing, entryOf, entryAt, before, journalOf, acceptedIn, Replayed, enteredBy, entering, afterEntry, Entering}
+use Rattle.applying.specs.declared.journal.Played.{Played}
+use Rattle.applying.specs.declared.journal.Played.the-variants.{Counts, Ends}
+use Rattle.applying.specs.Journal.{Entry, says, nothing, entryOf, entryAt, before, journalOf, acceptedIn, Replayed, countsAs, playing, afterEntry, Plays}
 
 -- ---- one entry
-entered-answer : (c : Change) → enteredBy c ≡ Told (is (accepted (answerOf c)))
-entered-answer (change.Done h) = refl
-entered-answer (change.Refused n) = refl
+counts-answer : (c : Change) → countsAs c ≡ Counts (is (accepted (answerOf c)))
+counts-answer (change.Done h) = refl
+counts-answer (change.Refused n) = refl
 
-pub entered : {ws : List ℕ} {e : Entry} (call : Call) {c : Change} {r : Entered} {words : List ℕ} → e ≡ says call → Replied (step ws call) c words
-    → r ≡ enteredBy c → Entering ws e r words
+pub entered : {ws : List ℕ} {e : Entry} (call : Call) {c : Change} {r : Played} {words : List ℕ} → e ≡ says call → Replied (step ws call) c words
+    → r ≡ countsAs c → Plays ws e r words
 entered {ws} call {c} f p q = record {
-  told = q ∙ entered-answer c ∙ ap (λ a. Told (is (accepted a))) (p .answer) ∙ ap (entering ws) (sym f);
+  counted = q ∙ counts-answer c ∙ ap (λ a. Counts (is (accepted a))) (p .answer) ∙ ap (playing ws) (sym f);
   store = p .store ∙ ap (afterEntry ws) (sym f);
 }
 
-pub passed : {ws : List ℕ} {e : Entry} {r : Entered} → e ≡ nothing → r ≡ Other → Entering ws e r ws
-passed {ws} f q = record { told = q ∙ ap (entering ws) (sym f); store = ap (afterEntry ws) (sym f) }
+pub passed : {ws : List ℕ} {e : Entry} {r : Played} → e ≡ nothing → r ≡ Ends → Plays ws e r ws
+passed {ws} f q = record { counted = q ∙ ap (playing ws) (sym f); store = ap (afterEntry ws) (sym f) }
 
 -- which entry a kind makes
 module _ {kind : ℕ} (a b c d : ℕ) where
   pub of-kind : (k : ℕ) → kind ≡ k → entryOf kind a b c d ≡ entryOf k a b c d
   of-kind k e = ap (λ n. entryOf n a b c d) e
 
-  pub of-none : kind ≢ 0 → kind ≢ 1 → kind ≢ 2 → kind ≢ 3 → kind ≢ 4 → entryOf kind a b c d ≡ nothing
+  pub of-none : kind ≢ 1 → kind ≢ 2 → kind ≢ 3 → kind ≢ 4 → kind ≢ 5 → entryOf kind a b c d ≡ nothing
   of-none f g h i j = simp (ne-eqb _ _ f, ne-eqb _ _ g, ne-eqb _ _ h, ne-eqb _ _ i, ne-eqb _ _ j)
 
 -- ---- what is left of a journal
-short : (l : List ℕ) → length l < 5 → journalOf l ≡ []
+short : (l : List ℕ) → length l < 6 → journalOf l ≡ []
 unfolding journalOf
 short [] h = refl
 short (a ∷ []) h = refl
 short (a ∷ b ∷ []) h = refl
 short (a ∷ b ∷ c ∷ []) h = refl
 short (a ∷ b ∷ c ∷ d ∷ []) h = refl
-short (a ∷ b ∷ c ∷ d ∷ e ∷ l) h = absurd (omega (arith, h))
+short (a ∷ b ∷ c ∷ d ∷ e ∷ []) h = refl
+short (a ∷ b ∷ c ∷ d ∷ e ∷ f ∷ l) h = absurd (omega (arith, h))
 
 cons-at : (j : List ℕ) (k m : ℕ) → k < length j → m ≡ k + 1 → drop k j ≡ getD j k 0 ∷ drop m j
 cons-at j k m h e =
     let f : suc k ≡ m = omega (arith, e) in
     drop-cons j k 0 h ∙ ap (λ n. getD j k 0 ∷ drop n j) f
 
-five : (j : List ℕ) (at : ℕ) → at + 5 ≤ length j → journalOf (drop at j) ≡ before (entryAt j at) (journalOf (drop (at + 5) j))
+six : (j : List ℕ) (at : ℕ) → at + 6 ≤ length j → journalOf (drop at j) ≡ before (entryAt j at) (journalOf (drop (at + 6) j))
 unfolding journalOf
-five j at h =
-    let e : drop at j ≡ getD j at 0 ∷ getD j (at + 1) 0 ∷ getD j (at + 2) 0 ∷ getD j (at + 3) 0 ∷ getD j (at + 4) 0 ∷ drop (at + 5) j =
+six j at h =
+    let e : drop at j ≡ getD j at 0 ∷ getD j (at + 1) 0 ∷ getD j (at + 2) 0 ∷ getD j (at + 3) 0 ∷ getD j (at + 4) 0 ∷ getD j (at + 5) 0 ∷ drop (at + 6) j =
     cons-at j at (at + 1) (omega (arith, h)) refl ∙ ap (_∷_ (getD j at 0))
     (cons-at j (at + 1) (at + 2) (omega (arith, h)) (omega arith) ∙ ap (_∷_ (getD j (at + 1) 0))
     (cons-at j (at + 2) (at + 3) (omega (arith, h)) (omega arith) ∙ ap (_∷_ (getD j (at + 2) 0))
     (cons-at j (at + 3) (at + 4) (omega (arith, h)) (omega arith) ∙ ap (_∷_ (getD j (at + 3) 0))
-    (cons-at j (at + 4) (at + 5) (omega (arith, h)) (omega arith))))) in
+    (cons-at j (at + 4) (at + 5) (omega (arith, h)) (omega arith) ∙ ap (_∷_ (getD j (at + 4) 0))
+    (cons-at j (at + 5) (at + 6) (omega (arith, h)) (omega arith)))))) in
     ap journalOf e
 
 -- ---- the loop
 pub record Going (ws j store : List ℕ) (at entries accepted : ℕ) : Type 0 where
-  pub place : at ≡ 5 * entries
+  pub place : at ≡ 6 * entries
   pub within : at ≤ length j
   pub long : length store ≡ length ws
   pub few : accepted ≤ entries
@@ -98,7 +99,7 @@ record Next (store store′ : List ℕ) (one : ℕ) (l rest : List Call) : Type 
   count : length l ≡ 1 + length rest
   heard : acceptedIn (trace store l) ≡ one + acceptedIn (trace store′ rest)
 
-heard-next : {store store′ : List ℕ} {one : ℕ} {l rest : List Call} (e : Entry) → Told one ≡ entering store e → store′ ≡ afterEntry store e
+heard-next : {store store′ : List ℕ} {one : ℕ} {l rest : List Call} (e : Entry) → Counts one ≡ playing store e → store′ ≡ afterEntry store e
     → l ≡ before e rest → Next store store′ one l rest
 heard-next {store} {store′} {one} {l} {rest} (says c) t w f =
     let n : one ≡ is (accepted (step store c .answer)) = cc in
@@ -111,7 +112,7 @@ heard-next {store} {store′} {one} {l} {rest} (says c) t w f =
     }
 heard-next nothing t w f = let z : _≡_ {A = ℕ} 0 1 = cc in absurd (omega arith)
 
-other-next : {store store′ : List ℕ} {l : List Call} (e : Entry) (rest : List Call) → Other ≡ entering store e → store′ ≡ afterEntry store e → l ≡ before e rest
+other-next : {store store′ : List ℕ} {l : List Call} (e : Entry) (rest : List Call) → Ends ≡ playing store e → store′ ≡ afterEntry store e → l ≡ before e rest
     → (store′ ≡ store) × (l ≡ [])
 other-next (says c) rest t w f = let z : _≡_ {A = ℕ} 0 1 = cc in absurd (omega arith)
 other-next nothing rest t w f = (w, f)
@@ -128,20 +129,20 @@ module _ {ws j store : List ℕ} {at entries accepted : ℕ} (g : Going ws j sto
         accepted = omega (arith, g .heard, m);
       }
 
-  pub at-end : length j - at < 5 → Replayed ws j (record { entries = entries; accepted = accepted }) store
+  pub at-end : length j - at < 6 → Replayed ws j (record { entries = entries; accepted = accepted }) store
   at-end h = done (short (drop at j) (simp length-drop h))
 
   -- an entry of another kind
-  pub at-other : {r : Entered} {store′ : List ℕ} → 5 ≤ length j - at → Entering store (entryAt j at) r store′ → r ≡ Other
+  pub at-other : {r : Played} {store′ : List ℕ} → 6 ≤ length j - at → Plays store (entryAt j at) r store′ → r ≡ Ends
       → Replayed ws j (record { entries = entries; accepted = accepted }) store′
   at-other h e f =
-      let o = other-next (entryAt j at) (journalOf (drop (at + 5) j)) (sym f ∙ e .told) (e .store) (five j at (omega (arith, g .within, h))) in
+      let o = other-next (entryAt j at) (journalOf (drop (at + 6) j)) (sym f ∙ e .counted) (e .store) (six j at (omega (arith, g .within, h))) in
       subst (λ (w : List ℕ). Replayed ws j (record { entries = entries; accepted = accepted }) w) (sym (o .0)) (done (o .1))
 
-  pub at-next : {r : Entered} {one : ℕ} {store′ : List ℕ} → 5 ≤ length j - at → Entering store (entryAt j at) r store′ → r ≡ Told one
-      → Going ws j store′ (at + 5) (entries + 1) (accepted + one)
+  pub at-next : {r : Played} {one : ℕ} {store′ : List ℕ} → 6 ≤ length j - at → Plays store (entryAt j at) r store′ → r ≡ Counts one
+      → Going ws j store′ (at + 6) (entries + 1) (accepted + one)
   at-next {one = one} h e f =
-      let m = heard-next (entryAt j at) (sym f ∙ e .told) (e .store) (five j at (omega (arith, g .within, h))) in
+      let m = heard-next (entryAt j at) (sym f ∙ e .counted) (e .store) (six j at (omega (arith, g .within, h))) in
       record {
         place = omega (arith, g .place);
         within = omega (arith, g .within, h);

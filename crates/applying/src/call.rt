@@ -1,16 +1,16 @@
 // ANY CALL as one value, and what comes back: one step of a history (calls.specs.History).
 use changes::Change;
 use layout::head::Head;
+use layout::settings::Settings;
 use timeslice::Looked;
 use timeslice::Slice;
 ghost use mathlib.Core.Path.{_≡_};
-ghost use Rattle.calls.specs.Step.{step};
-ghost use Rattle.applying.specs.Applied.{changeAnswer, lookedAnswer, callOf, Applied};
+ghost use Rattle.applying.specs.Applied.{changeAnswer, lookedAnswer, Applied};
 
 // The six calls. A look-back's two buffers are lent beside it.
 pub enum Call {
-    // b, q, B, D
-    Start(u32, u32, u32, u32),
+    // b, q, B and D
+    Start(Settings),
     // second, tag, reading
     Set(u32, u32, u32),
     // second, tag
@@ -53,7 +53,7 @@ pub fn apply(store: &mut [u32], call: Call, rows: &mut [u32], list: &mut [u32]) 
     ensures { λ r. ⌜ Applied (now (store .entry)) call (now (rows .entry)) (now (list .entry)) r (now (store .exit)) (now (rows .exit)) (now (list .exit)) ⌝ }
 {
     match call {
-        Call::Start(b, q, blocks, tags) => changed(changes::start(store, b, q, blocks, tags)),
+        Call::Start(asked) => changed(changes::start(store, asked)),
         Call::Set(second, tag, reading) => changed(changes::set(store, second, tag, reading)),
         Call::Clear(second, tag) => changed(changes::clear(store, second, tag)),
         Call::Update(second, tag, reading) => changed(changes::update(store, second, tag, reading)),

@@ -86,9 +86,6 @@ off-below d k x h = omega arith
 bit-test : (k x : ℕ) (P : Bool → Type 0) → (bitAt k x ≡ 1 → P true) → (bitAt k x ≡ 0 → P false) → P (eqb (bitAt k x) 1)
 bit-test k x P f g = by-eqb (bitAt k x) 1 P f (λ d. g (omega (arith, bit-two k x)))
 
-pub bit? : {P : Type 0} (k x : ℕ) → (bitAt k x ≡ 1 → P) → (bitAt k x ≡ 0 → P) → P
-bit? {P} k x f g = bit-test k x (λ t. P) f g
-
 unfoldable pub withBit : ℕ → ℕ → ℕ
 withBit k x = cond (eqb (bitAt k x) 1) x (x + 2 ^ k)
 

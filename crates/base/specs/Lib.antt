@@ -3,6 +3,5 @@ pub mod Sums
 pub mod Bits
 pub mod Places
 pub mod Slots
-pub mod Measure
 pub mod Pigeonhole
 pub mod SameRows

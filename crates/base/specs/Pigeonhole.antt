@@ -1,13 +1,13 @@
 -- The pigeonhole: keys below d, none of them twice, are at most d. Counted by the sums of `Sums`.
 use mathlib.Core.Path.{_≡_, sym, _∙_}
 use mathlib.Core.List.{List}
-use Prim.Native.Nat.{ℕ, zero, suc, _+_, _≤_, _<_}
+use Prim.Native.Nat.{ℕ, zero, suc, _+_, _≤_}
 use native.Mathlib.Omega.{arith}
 use lib.Dec.{ltb, leb, eqb}
 use lib.ListN.{length}
 use borrow.Author.Tests.{lt-ltb, le-ltb, le-leb, lt-leb, eq-eqb, ne-eqb}
 use Rattle.base.specs.Branch.{lt?, cmp?}
-use Rattle.base.specs.Sums.{All, all-of, all-map, is, occ, total, total-same, total-plus, total-none, total-length}
+use Rattle.base.specs.Sums.{all-of, is, total, total-same, total-plus, total-none, total-length}
 
 none-below : (n : ℕ) → is (ltb n 0) ≡ 0
 none-below n = rw (le-ltb n 0 (omega arith))
@@ -45,7 +45,3 @@ module _ {A : Type 0} (key : A → ℕ) where
   pub pigeonhole : (d : ℕ) (l : List A)
       → total (λ x. is (leb d (key x))) l ≡ 0 → ((m : ℕ) → keyed m l ≤ 1) → length l ≤ d
   pigeonhole d l a h = omega (arith, below-rest d l, below-most d l h)
-
--- A list of numbers below d, none of them twice, is at most d long.
-pub few-below : (d : ℕ) {l : List ℕ} → All (λ n. n < d) l → ((m : ℕ) → occ m l ≤ 1) → length l ≤ d
-few-below d {l} a h = pigeonhole (λ n. n) d l (total-none _ (all-map (λ n p. rw (lt-leb d n p)) a)) h

@@ -132,12 +132,6 @@ lowest (suc d) x p h = is? (x % 2) 0
 pub next-below : (d x : ℕ) → 0 < x → x < 2 ^ d → trailingZeros d x < d
 next-below d x p h = lowest d x p h .low
 
-pub next-is-set : (d x : ℕ) → 0 < x → x < 2 ^ d → bitAt (trailingZeros d x) x ≡ 1
-next-is-set d x p h = lowest d x p h .one
-
-pub lower-off-is : (d x : ℕ) → 0 < x → x < 2 ^ d → lowerOff x ≡ x - 2 ^ trailingZeros d x
-lower-off-is d x p h = lowest d x p h .off
-
 pub bits-next : (d i x : ℕ) → 0 < x → x < 2 ^ d → bitsFrom d i x ≡ (i + trailingZeros d x) ∷ bitsFrom d i (lowerOff x)
 bits-next d i x p h = lowest d x p h .rest i
 

@@ -2,13 +2,12 @@
 -- same, and its lists without a repetition are those in which no number is counted twice.
 use mathlib.Core.Path.{_≡_, refl, ap, _∙_}
 use mathlib.Core.Logic.{∥∥₁-elim}
-use mathlib.Core.HLevel.{Discrete, hedberg, ⊥-prop}
+use mathlib.Core.HLevel.{Discrete, ⊥-prop}
 use mathlib.Core.List.{List, [], _∷_, _++_, List·Mem, List·Memᴰ, List·Memᴰ·head, List·Memᴰ·tail}
 use mathlib.Core.List.{Perm, Perm·nil, Perm·cons, Perm·trans, Perm·symm, perm-middle, List·Nodup, nodup-nil, nodup-cons}
 use mathlib.Core.List.{List·Permᴰ, List·Permᴰ·nil, List·Permᴰ·cons, List·Permᴰ·swap, List·Permᴰ·trans}
 use Prim.Native.Nat.{ℕ, _+_, _≤_, _<_}
 use native.Mathlib.Omega.{arith}
-use native.Mathlib.Decide.{ℕ-discrete}
 use borrow.Author.Tests.{eq-eqb}
 use Rattle.base.specs.Branch.{eqb-same}
 use Rattle.base.specs.Sums.{total, totals, occ}
@@ -23,9 +22,6 @@ perm-total w List·Permᴰ·nil = refl
 perm-total w (List·Permᴰ·cons e p) = simp totals (omega (arith, ap w e, perm-total w p))
 perm-total w (List·Permᴰ·swap e f) = simp totals (omega (arith, ap w e, ap w f))
 perm-total w (List·Permᴰ·trans p q) = perm-total w p ∙ perm-total w q
-
-pub perm-same : {A : Type 0} {l m : List A} → Perm l m → Same l m
-perm-same {l = l} {m} p = record { sums = λ w. ∥∥₁-elim p (hedberg ℕ-discrete (total w l) (total w m)) (perm-total w) }
 
 -- ---- and the same sums make a permutation
 

@@ -4,6 +4,7 @@ use mathlib.Core.List.{List, [], _∷_, _++_}
 use Prim.Native.Nat.{ℕ, zero, suc, _+_, _-_}
 use lib.Dec.{eqb, ltb, leb}
 use lib.ListN.{length}
+use Rattle.layout.specs.declared.settings.Settings.{Settings}
 use Rattle.layout.specs.Sizes.{OPEN}
 
 -- a record: its tag, standing or ended
@@ -23,8 +24,9 @@ pub record Book : Type 0 where
   pub q : ℕ
   pub blocks : List Block
 
-abbrev pub emptyBook : ℕ → ℕ → Book
-emptyBook b q = record { b = b; q = q; blocks = [] }
+-- an accepted start makes an empty book with its b and q
+abbrev pub emptyBook : Settings → Book
+emptyBook s = record { b = s .block; q = s .useful; blocks = [] }
 
 -- ---- the tags of the records that stand, in order
 abbrev pub standingTags : List Entry → List ℕ

@@ -1,13 +1,22 @@
 -- WHAT IS CALLED AND WHAT COMES BACK (document 01, "Conditions and seconds" and "The look-back").
 use mathlib.Core.Bool.{Bool, true, false}
-use mathlib.Core.List.{List}
+use mathlib.Core.List.{List, [], _∷_}
 use Prim.Native.Nat.{ℕ}
+use Rattle.layout.specs.declared.settings.Settings.{Settings}
 use Rattle.layout.specs.declared.head.Head.{Head}
 
--- The six calls, with any arguments. A look-back is lent its two buffers, for rows and for the reading list.
+-- What may be asked of a store, with the buffers that each question is lent.
+pub data Query : Type 0 where
+  -- what stood at a second; for its rows, and for the reading list
+  LookBack : ℕ → List ℕ → List ℕ → Query
+
+abbrev pub buffersOf : Query → List (List ℕ)
+buffersOf (LookBack t rows list) = rows ∷ list ∷ []
+
+-- The calls, with any arguments: a start, four that may change the store, and a question.
 pub data Call : Type 0 where
-  -- b, q, B, D
-  Start : ℕ → ℕ → ℕ → ℕ → Call
+  -- b, q, B and D
+  Start : Settings → Call
   -- second, tag, reading
   Set : ℕ → ℕ → ℕ → Call
   -- second, tag
@@ -16,8 +25,7 @@ pub data Call : Type 0 where
   Update : ℕ → ℕ → ℕ → Call
   -- second
   Advance : ℕ → Call
-  -- second, row buffer, list buffer
-  LookBack : ℕ → List ℕ → List ℕ → Call
+  Ask : Query → Call
 
 -- a condition that stands: its tag and its reading, as the word that is stored
 pub record Row : Type 0 where
@@ -48,9 +56,8 @@ accepted (Done h) = true
 accepted (Shown v) = true
 accepted (Refused n) = false
 
--- the answer with all lent words as the call leaves them: the store, and a look-back's two buffers (none of another call)
+-- the answer with all lent words as the call leaves them: the store, and a query's buffers (none of another call)
 pub record Reply : Type 0 where
   pub answer : Answer
   pub store : List ℕ
-  pub rows : List ℕ
-  pub list : List ℕ
+  pub lent : List (List ℕ)

@@ -1,24 +1,34 @@
 -- THE CLAIMS (demands 1 to 3): what is said of the definitions, before anything of it is proved. Each sentence is a named field.
 use mathlib.Core.Path.{_≡_}
 use mathlib.Core.Logic.{_≢_, _↔_}
-use mathlib.Core.Bool.{true, false, cond, not, _&&_}
+use mathlib.Core.Bool.{Bool, true, false, cond, not, _&&_, _||_}
 use mathlib.Core.List.{List, [], _∷_, map, Perm, List·Nodup}
-use Prim.Native.Nat.{ℕ, _+_, _*_, _-_, _≤_, _<_}
-use lib.Dec.{eqb}
+use Prim.Native.Nat.{ℕ, _+_, _*_, _-_, _^_, _≤_, _<_}
+use lib.Dec.{eqb, ltb}
+use lib.Count.{ones}
 use lib.ListN.{length, getD, take}
 use Rattle.base.specs.Sums.{All, is, over}
-use Rattle.layout.specs.declared.address.Address.the-variants.{Field}
+use Rattle.layout.specs.declared.settings.Settings.{Settings}
+use Rattle.layout.specs.declared.head.Cursor.{Cursor}
+use Rattle.layout.specs.declared.head.Head.{Head}
+use Rattle.layout.specs.declared.standing.Standing.{Standing}
+use Rattle.layout.specs.declared.address.Address.the-variants.{Dir, Field, Slot}
 use Rattle.layout.specs.Sizes.{OPEN, headLen, rowLen}
-use Rattle.layout.specs.Fields.{openedWord, closedWord}
+use Rattle.layout.specs.Fields.{openedWord, closedWord, tagWord, fromWord, toWord}
+use Rattle.layout.specs.Memory.{Memory}
+use Rattle.layout.specs.Program.{runOn}
 use Rattle.layout.specs.Head.{headOf, placed}
-use Rattle.layout.specs.Parts.{blockPart, levelPart, pagePart}
-use Rattle.calls.specs.Calls.{Call, Start, Set, Clear, Update, Advance, LookBack, View, Shown, Refused, accepted}
-use Rattle.calls.specs.Walk.{Pass, looked}
-use Rattle.calls.specs.Refusals.{Test}
-use Rattle.calls.specs.Step.{step, testsOf, wordsRead, lookAt, viewOf, rowWords, written, zeros}
+use Rattle.layout.specs.Standing.{slots, stands}
+use Rattle.layout.specs.Parts.{blockPart, levelPart, pagePart, slotWord}
+use Rattle.calls.specs.Calls.{Query, LookBack, buffersOf, Call, Start, Set, Clear, Update, Advance, Ask, View, Answer, Done, Shown, Refused, accepted}
+use Rattle.calls.specs.Placing.{placeOf, setProgram, clearProgram, updateProgram, advanceProgram}
+use Rattle.calls.specs.Walk.{Pass, looked, rowOf}
+use Rattle.calls.specs.Refusals.{Test, opens, acceptorCloses, bitsOf, tagBlock, closes, copies, afterClear}
+use Rattle.calls.specs.LookBack.{lookAt, viewOf, rowWords, written, zeros}
+use Rattle.calls.specs.Step.{step, testsOf, wordsRead}
 use Rattle.calls.specs.Book.{Book, recordsIn, openings, closings, openAt}
-use Rattle.calls.specs.Log.{stateAt}
-use Rattle.calls.specs.History.{wordsAfter, trace, Account, opening, account}
+use Rattle.calls.specs.Log.{stateAt, soFar, among}
+use Rattle.calls.specs.History.{wordsAfter, trace, Account, opening, enters, account, accountTests}
 
 -- ---- EVERY CALL ON ANY WORDS (demands 1 and 2)
 -- n is the first refusal that applies: none before it does
@@ -26,22 +36,94 @@ pub data First : List Test → ℕ → Type 0 where
   here : {x : Test} {l : List Test} → x .applies ≡ true → First (x ∷ l) (x .number)
   later : {x : Test} {l : List Test} {n : ℕ} → x .applies ≡ false → First l n → First (x ∷ l) n
 
--- the buffers that a call is lent
-abbrev pub lentRows : Call → List ℕ
-lentRows (Start b q blocks tags) = []
-lentRows (Set s tag reading) = []
-lentRows (Clear s tag) = []
-lentRows (Update s tag reading) = []
-lentRows (Advance s) = []
-lentRows (LookBack t rows list) = rows
+-- the buffers that a call is lent, and what refusal 12 makes of them
+abbrev pub lentBy : Call → List (List ℕ)
+lentBy (Start s) = []
+lentBy (Set s tag reading) = []
+lentBy (Clear s tag) = []
+lentBy (Update s tag reading) = []
+lentBy (Advance s) = []
+lentBy (Ask q) = buffersOf q
 
-abbrev pub lentList : Call → List ℕ
-lentList (Start b q blocks tags) = []
-lentList (Set s tag reading) = []
-lentList (Clear s tag) = []
-lentList (Update s tag reading) = []
-lentList (Advance s) = []
-lentList (LookBack t rows list) = list
+abbrev pub zeroed : List (List ℕ) → List (List ℕ)
+zeroed l = map zeros l
+
+-- ---- ONE CHANGE opens at most one block and closes at most two
+-- every call but a start
+abbrev pub Change : Call → Type 0
+Change (Start s) = ⊥
+Change (Set s tag reading) = Unit {0}
+Change (Clear s tag) = Unit {0}
+Change (Update s tag reading) = Unit {0}
+Change (Advance s) = Unit {0}
+Change (Ask q) = Unit {0}
+
+-- 1 for a block that is closed after the change and was open before it, or was not there
+abbrev pub closing : List ℕ → List ℕ → ℕ → ℕ
+closing ws ws′ n =
+    is ((ltb (headOf ws .cursor .opened) n || eqb (wordsRead ws (Field n closedWord)) OPEN) && not (eqb (wordsRead ws′ (Field n closedWord)) OPEN))
+
+-- counted over all blocks that are there after it
+pub record Small (ws ws′ : List ℕ) : Type 0 where
+  pub opens : headOf ws′ .cursor .opened ≤ headOf ws .cursor .opened + 1
+  pub keeps : headOf ws .cursor .opened ≤ headOf ws′ .cursor .opened
+  pub closes : over (headOf ws′ .cursor .opened) (closing ws ws′) ≤ 2
+
+-- ---- WHAT THE TESTS FORETELL, THE CHANGE DOES. Refusals 12 and 13 speak of a block that the change would open and of blocks that it will close. Where no
+-- refusal but 13 applies, its program, run on the memory that the words are (there block N + 1 has words, also where N = B), does just that.
+abbrev pub AllBut13 : List Test → Type 0
+AllBut13 l = All (λ x. x .number ≢ 13 → x .applies ≡ false) l
+
+-- with so many incoming records, and with the blocks that will close
+pub record Foretold (h : Head) (f : Memory) (now incoming : ℕ) (willClose : ℕ → Bool) (left : Cursor × Memory) : Type 0 where
+  -- N + 1 blocks exactly if one opens
+  pub blocks : left .0 .opened ≡ cond (opens h incoming) (h .cursor .opened + 1) (h .cursor .opened)
+  -- the closed word of each block that was there
+  pub closed : (n : ℕ) → 1 ≤ n → n ≤ h .cursor .opened
+      → left .1 (Field n closedWord) ≡ cond (willClose n) now (f (Field n closedWord))
+  -- and of the new one
+  pub new : opens h incoming ≡ true → left .1 (Field (h .cursor .opened + 1) closedWord) ≡ OPEN
+
+module _ (h : Head) (f : Memory) where
+  -- by a set the old acceptor
+  abbrev pub setCloses : ℕ → Bool
+  setCloses n = eqb n (h .cursor .opened) && acceptorCloses h (bitsOf h f (h .cursor .opened)) 1
+
+  abbrev pub incomingClear : ℕ → ℕ → ℕ
+  incomingClear more tag = copies h f (tagBlock h f tag) + more
+
+  -- by a clear (more = 0) or new reading (more = 1) the tag's block and the old acceptor
+  abbrev pub clearCloses : ℕ → ℕ → ℕ → Bool
+  clearCloses more tag n =
+      (eqb n (tagBlock h f tag) && closes h f (tagBlock h f tag)) || (eqb n (h .cursor .opened) && acceptorCloses h (afterClear h f tag) (incomingClear more tag))
+
+  abbrev pub ForetoldOf : Call → Type 0
+  ForetoldOf (Start s) = Unit {0}
+  ForetoldOf (Set s tag reading) = Foretold h f s 1 setCloses (runOn (setProgram (h .settings) (h .cursor) s tag reading) f)
+  ForetoldOf (Clear s tag) = Foretold h f s (incomingClear 0 tag) (clearCloses 0 tag) (runOn (clearProgram (h .settings) (h .cursor) s tag) f)
+  ForetoldOf (Update s tag reading) =
+      Foretold h f s (incomingClear 1 tag) (clearCloses 1 tag) (runOn (updateProgram (h .settings) (h .cursor) s tag reading) f)
+  ForetoldOf (Advance s) = Foretold h f s 0 (λ n. false) (runOn (advanceProgram (h .settings) (h .cursor) s) f)
+  ForetoldOf (Ask q) = Unit {0}
+
+-- ---- what may be answered to which call
+abbrev pub NoView : Answer → Type 0
+NoView (Done h) = Unit {0}
+NoView (Shown v) = ⊥
+NoView (Refused n) = Unit {0}
+
+abbrev pub NoHead : Answer → Type 0
+NoHead (Done h) = ⊥
+NoHead (Shown v) = Unit {0}
+NoHead (Refused n) = Unit {0}
+
+abbrev pub KindOf : Call → Answer → Type 0
+KindOf (Start s) a = NoView a
+KindOf (Set s tag reading) a = NoView a
+KindOf (Clear s tag) a = NoView a
+KindOf (Update s tag reading) a = NoView a
+KindOf (Advance s) a = NoView a
+KindOf (Ask q) a = NoHead a
 
 pub record EveryCall (ws : List ℕ) (c : Call) : Type 0 where
   -- a call is accepted if and only if no listed refusal applies
@@ -50,11 +132,28 @@ pub record EveryCall (ws : List ℕ) (c : Call) : Type 0 where
   pub refused-first : (n : ℕ) → step ws c .answer ≡ Refused n → First (testsOf ws c) n
   -- all words are then as before
   pub store-kept : (n : ℕ) → step ws c .answer ≡ Refused n → step ws c .store ≡ ws
-  pub buffers-kept : (n : ℕ) → step ws c .answer ≡ Refused n → n ≢ 12 → (step ws c .rows ≡ lentRows c) × (step ws c .list ≡ lentList c)
+  pub buffers-kept : (n : ℕ) → step ws c .answer ≡ Refused n → n ≢ 12 → step ws c .lent ≡ lentBy c
   -- except that refusal 12 of a look-back fills both its buffers with zeros
-  pub buffers-zero : step ws c .answer ≡ Refused 12 → (step ws c .rows ≡ zeros (lentRows c)) × (step ws c .list ≡ zeros (lentList c))
+  pub buffers-zero : step ws c .answer ≡ Refused 12 → step ws c .lent ≡ zeroed (lentBy c)
+  -- a query is answered with no head, and any other call with no view: an accepted change hands back the next head
+  pub head-or-view : KindOf c (step ws c .answer)
+  -- the head that is handed back is the head of the words left
+  pub head-stored : (h : Head) → step ws c .answer ≡ Done h → headOf (step ws c .store) ≡ h
+  -- what the tests foretell
+  pub foretold : AllBut13 (testsOf ws c) → ForetoldOf (headOf ws) (wordsRead ws) c
+  -- one change opens at most one block and closes at most two
+  pub small : Change c → Small ws (step ws c .store)
   -- lent words keep their number
-  pub same-lengths : (length (step ws c .store) ≡ length ws) × (length (step ws c .rows) ≡ length (lentRows c)) × (length (step ws c .list) ≡ length (lentList c))
+  pub same-lengths : (length (step ws c .store) ≡ length ws) × (map length (step ws c .lent) ≡ map length (lentBy c))
+  -- a query only reads the store
+  pub query-reads : (q : Query) → c ≡ Ask q → step ws c .store ≡ ws
+
+-- ---- ANY BLOCK'S WORDS
+pub record AnyBlock : Type 0 where
+  -- "A record [from, to) stands at t if from ≤ t < to, so one set and cleared within a second never shows."
+  pub brief : (t k : ℕ) (block : List ℕ) → slotWord block k fromWord ≡ slotWord block k toWord → rowOf t block k ≡ []
+  -- "how many stand is the number of ones", of both words
+  pub number-of-ones : (b : Standing) → b .low < 2 ^ 32 → b .high < 2 ^ 32 → length (slots b) ≡ ones (b .low) + ones (b .high)
 
 -- ---- A STORE ALIKE, on any words (demand 3, last sentence)
 -- in length, head, index pages passed and listed blocks
@@ -67,12 +166,11 @@ pub record Alike (ws ws′ : List ℕ) (v : View) : Type 0 where
 
 -- gets the same answer, both buffers' final words included
 pub record StoreAlike (ws : List ℕ) (t : ℕ) (rows list : List ℕ) : Type 0 where
-  pub same-answer : (ws′ : List ℕ) (v : View) → step ws (LookBack t rows list) .answer ≡ Shown v → Alike ws ws′ v
-      → step ws′ (LookBack t rows list) ≡ record {
+  pub same-answer : (ws′ : List ℕ) (v : View) → step ws (Ask (LookBack t rows list)) .answer ≡ Shown v → Alike ws ws′ v
+      → step ws′ (Ask (LookBack t rows list)) ≡ record {
         answer = Shown v;
         store = ws′;
-        rows = step ws (LookBack t rows list) .rows;
-        list = step ws (LookBack t rows list) .list;
+        lent = step ws (Ask (LookBack t rows list)) .lent;
       }
 
 -- ---- THE STORE AGREES WITH THE BOOK
@@ -111,63 +209,71 @@ pub record Answered (ws : List ℕ) (a : Account) (t : ℕ) (rows list : List �
   pub pages-counted : v .counts .pages ≡ passedPages (v .pages)
   pub blocks-counted : v .counts .blocks ≡ length (v .list)
   -- the buffers hold rows and list; words after them keep their contents
-  pub rows-given : step ws (LookBack t rows list) .rows ≡ written (rowWords (v .rows)) rows
-  pub list-given : step ws (LookBack t rows list) .list ≡ written (v .list) list
+  pub given : step ws (Ask (LookBack t rows list)) .lent ≡ written (rowWords (v .rows)) rows ∷ written (v .list) list ∷ []
 
 -- a look-back at t with these buffers is answered exactly if t is below OPEN, not after the clock, and the buffers are long enough
-pub record Asked (ws : List ℕ) (t : ℕ) (rows list : List ℕ) : Type 0 where
+pub record Asked (a : Account) (t : ℕ) (rows list : List ℕ) : Type 0 where
   pub second : t < OPEN
-  pub past : t ≤ headOf ws .cursor .clock
-  pub row-room : rowLen * headOf ws .settings .tags ≤ length rows
-  pub list-room : headOf ws .settings .blocks ≤ length list
+  pub past : t ≤ a .clock
+  pub row-room : rowLen * a .settings .tags ≤ length rows
+  pub list-room : a .settings .blocks ≤ length list
 
--- ---- ONE CHANGE opens at most one block and closes at most two
--- 1 for a block that is open before and closed after
-abbrev pub closing : List ℕ → List ℕ → ℕ → ℕ
-closing ws ws′ n = is (eqb (wordsRead ws (Field n closedWord)) OPEN && not (eqb (wordsRead ws′ (Field n closedWord)) OPEN))
+-- ---- WHAT THE WORDS OF A STORE MEAN (document 01, "The lent store"), after a history
+-- the record of a tag that stands lies in slot k of block n
+pub record StandsAt (ws : List ℕ) (tag n k : ℕ) : Type 0 where
+  pub block : (1 ≤ n) × (n ≤ headOf ws .cursor .opened)
+  pub slot : k < headOf ws .settings .block
+  pub tagged : wordsRead ws (Slot n k tagWord) ≡ tag
+  pub unended : wordsRead ws (Slot n k toWord) ≡ OPEN
 
--- every call but a start
-abbrev pub Change : Call → Type 0
-Change (Start b q blocks tags) = ⊥
-Change (Set s tag reading) = Unit {0}
-Change (Clear s tag) = Unit {0}
-Change (Update s tag reading) = Unit {0}
-Change (Advance s) = Unit {0}
-Change (LookBack t rows list) = Unit {0}
-
-pub record Small (ws ws′ : List ℕ) : Type 0 where
-  pub opens : headOf ws′ .cursor .opened ≤ headOf ws .cursor .opened + 1
-  pub keeps : headOf ws .cursor .opened ≤ headOf ws′ .cursor .opened
-  pub closes : over (headOf ws .cursor .opened) (closing ws ws′) ≤ 2
+pub record Means (ws : List ℕ) (a : Account) : Type 0 where
+  -- "Standing bit k is 1 while slot k is unended"
+  pub bits : (n k : ℕ) → 1 ≤ n → n ≤ headOf ws .cursor .opened → k < headOf ws .settings .block
+      → (stands (bitsOf (headOf ws) (wordsRead ws) n) k ≡ true) ↔ (wordsRead ws (Slot n k toWord) ≡ OPEN)
+  -- "Directory, D words: 0, or the place of the tag's standing record"
+  pub directory-none : (tag : ℕ) → tag < a .settings .tags → (wordsRead ws (Dir tag) ≡ 0) ↔ (among tag (soFar (a .log)) ≡ false)
+  pub directory-place : (tag : ℕ) → tag < a .settings .tags → wordsRead ws (Dir tag) ≢ 0
+      → (n : ℕ) × (k : ℕ) × StandsAt ws tag n k × (wordsRead ws (Dir tag) ≡ placeOf (a .settings) n k)
 
 -- ---- WHAT HOLDS AFTER A HISTORY, of the words left and the account kept
 pub record Holds (ws : List ℕ) (a : Account) : Type 0 where
+  -- the head has the settings of the last accepted start, and the clock
+  pub settings : headOf ws .settings ≡ a .settings
+  pub clock : headOf ws .cursor .clock ≡ a .clock
   -- the store's blocks, their opening and closing, and the count of records placed are the book's
   pub agrees : Agrees ws (a .book)
   -- records placed × (b − q + 1) is at most b × the accepted sets and new readings
   pub bound : placed (headOf ws) * (a .book .b - a .book .q + 1) ≤ a .book .b * a .sets
   -- refusal 12 never comes
   pub never-unsound : (c : Call) → step ws c .answer ≢ Refused 12
+  -- a call is accepted if and only if none of the refusals applies that the account foretells, and else the first that does is given
+  pub accepted-iff : (c : Call) → (accepted (step ws c .answer) ≡ true) ↔ All (λ x. x .applies ≡ false) (accountTests (length ws) a c)
+  pub refused-first : (c : Call) (n : ℕ) → step ws c .answer ≡ Refused n → First (accountTests (length ws) a c) n
   -- a look-back is answered whenever it may be asked
-  pub answered-iff : (t : ℕ) (rows list : List ℕ) → (accepted (step ws (LookBack t rows list) .answer) ≡ true) ↔ Asked ws t rows list
-  pub answered : (t : ℕ) (rows list : List ℕ) (v : View) → step ws (LookBack t rows list) .answer ≡ Shown v → Answered ws a t rows list v
-  -- one change opens at most one block and closes at most two
-  pub small : (c : Call) → Change c → Small ws (step ws c .store)
+  pub answered-iff : (t : ℕ) (rows list : List ℕ) → (accepted (step ws (Ask (LookBack t rows list)) .answer) ≡ true) ↔ Asked a t rows list
+  pub answered : (t : ℕ) (rows list : List ℕ) (v : View) → step ws (Ask (LookBack t rows list)) .answer ≡ Shown v → Answered ws a t rows list v
+  -- "A look-back at the clock tells the state so far."
+  pub so-far : stateAt (a .log) (a .clock) ≡ soFar (a .log)
+  -- "one set and cleared within a second never shows": with it every second tells what it told before
+  pub brief : (s tag reading t : ℕ) → accepted (step ws (Set s tag reading) .answer) ≡ true
+      → stateAt (enters (enters a (Set s tag reading)) (Clear s tag) .log) t ≡ stateAt (a .log) t
+  -- bits and directory
+  pub means : Means ws a
   -- and whatever the other words are, a store alike gets the same answer
   pub alike : (t : ℕ) (rows list : List ℕ) → StoreAlike ws t rows list
 
 -- ---- THE WHOLE LIST (demand 3): a store of any length as an accepted start left it, then any calls, refused ones included
-pub record WholeList (ws : List ℕ) (b q blocks tags : ℕ) (calls : List Call) : Type 0 where
-  pub after : accepted (step ws (Start b q blocks tags) .answer) ≡ true
-      → let fresh = step ws (Start b q blocks tags) .store in
-      Holds (wordsAfter fresh calls) (account (opening b q) (trace fresh calls))
+pub record WholeList (ws : List ℕ) (s : Settings) (calls : List Call) : Type 0 where
+  pub after : accepted (step ws (Start s) .answer) ≡ true
+      → let fresh = step ws (Start s) .store in
+      Holds (wordsAfter fresh calls) (account (opening s) (trace fresh calls))
 
 -- ---- DEMAND 2, which follows from these: acceptance on any words, and after any history no refusal 12 and the log's conditions, each once
-pub record Demand2 (ws : List ℕ) (b q blocks tags : ℕ) (calls : List Call) : Type 0 where
+pub record Demand2 (ws : List ℕ) (s : Settings) (calls : List Call) : Type 0 where
   pub accepted-iff : (words : List ℕ) (c : Call) → (accepted (step words c .answer) ≡ true) ↔ All (λ x. x .applies ≡ false) (testsOf words c)
-  pub never-unsound : accepted (step ws (Start b q blocks tags) .answer) ≡ true
-      → (c : Call) → step (wordsAfter (step ws (Start b q blocks tags) .store) calls) c .answer ≢ Refused 12
-  pub log : accepted (step ws (Start b q blocks tags) .answer) ≡ true → (t : ℕ) (rows list : List ℕ) (v : View)
-      → let fresh = step ws (Start b q blocks tags) .store in
-      step (wordsAfter fresh calls) (LookBack t rows list) .answer ≡ Shown v
-      → Perm (v .rows) (stateAt (account (opening b q) (trace fresh calls) .log) t) × List·Nodup (map (λ r. r .tag) (v .rows))
+  pub never-unsound : accepted (step ws (Start s) .answer) ≡ true
+      → (c : Call) → step (wordsAfter (step ws (Start s) .store) calls) c .answer ≢ Refused 12
+  pub log : accepted (step ws (Start s) .answer) ≡ true → (t : ℕ) (rows list : List ℕ) (v : View)
+      → let fresh = step ws (Start s) .store in
+      step (wordsAfter fresh calls) (Ask (LookBack t rows list)) .answer ≡ Shown v
+      → Perm (v .rows) (stateAt (account (opening s) (trace fresh calls) .log) t) × List·Nodup (map (λ r. r .tag) (v .rows))

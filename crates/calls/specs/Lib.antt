@@ -2,6 +2,7 @@ pub mod Calls
 pub mod Placing
 pub mod Walk
 pub mod Refusals
+pub mod LookBack
 pub mod Step
 pub mod Book
 pub mod Log

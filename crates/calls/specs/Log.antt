@@ -1,9 +1,9 @@
 -- THE PLAIN LOG: the accepted changes in order, and the state that it tells for a second.
-use mathlib.Core.Bool.{cond}
+use mathlib.Core.Bool.{Bool, false, cond, _||_}
 use mathlib.Core.List.{List, [], _∷_, _++_}
 use Prim.Native.Nat.{ℕ}
 use lib.Dec.{eqb, leb}
-use Rattle.calls.specs.Calls.{Call, Start, Set, Clear, Update, Advance, LookBack, Row}
+use Rattle.calls.specs.Calls.{Call, Start, Set, Clear, Update, Advance, Ask, Row}
 
 -- the accepted changes, the first of them first
 abbrev pub Log : Type 0
@@ -22,9 +22,9 @@ abbrev pub tells : ℕ → List Row → Call → List Row
 tells t rows (Set s tag reading) = cond (leb s t) (andRow tag reading rows) rows
 tells t rows (Clear s tag) = cond (leb s t) (without tag rows) rows
 tells t rows (Update s tag reading) = cond (leb s t) (andRow tag reading (without tag rows)) rows
-tells t rows (Start b q blocks tags) = rows
+tells t rows (Start s) = rows
 tells t rows (Advance s) = rows
-tells t rows (LookBack s r l) = rows
+tells t rows (Ask q) = rows
 
 -- what stands at t
 abbrev pub stateFrom : ℕ → List Row → Log → List Row
@@ -33,3 +33,24 @@ stateFrom t rows (c ∷ l) = stateFrom t (tells t rows c) l
 
 abbrev pub stateAt : Log → ℕ → List Row
 stateAt log t = stateFrom t [] log
+
+-- ---- the state so far: what all changes of the log, whatever their seconds, leave standing
+abbrev pub makes : List Row → Call → List Row
+makes rows (Set s tag reading) = andRow tag reading rows
+makes rows (Clear s tag) = without tag rows
+makes rows (Update s tag reading) = andRow tag reading (without tag rows)
+makes rows (Start s) = rows
+makes rows (Advance s) = rows
+makes rows (Ask q) = rows
+
+abbrev pub madeFrom : List Row → Log → List Row
+madeFrom rows [] = rows
+madeFrom rows (c ∷ l) = madeFrom (makes rows c) l
+
+abbrev pub soFar : Log → List Row
+soFar log = madeFrom [] log
+
+-- a tag has a row
+abbrev pub among : ℕ → List Row → Bool
+among tag [] = false
+among tag (r ∷ l) = eqb (r .tag) tag || among tag l

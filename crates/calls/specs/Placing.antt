@@ -1,7 +1,7 @@
 -- THE CHANGES AS PROGRAMS (document 01, "Placing and closing"). A program threads the cursor: N, clock, fill and block 0's two links.
 use mathlib.Core.Bool.{_||_}
 use mathlib.Core.List.{List}
-use Prim.Native.Nat.{ℕ, _+_, _*_, _-_, _/_, _%_}
+use Prim.Native.Nat.{ℕ, _+_, _*_, _/_, _%_}
 use lib.Dec.{eqb, ltb}
 use lib.ListN.{length}
 use Rattle.base.specs.Bits.{withBit, withoutBit}
@@ -12,17 +12,8 @@ use Rattle.layout.specs.declared.address.Address.the-variants.{Time, Dir, Field
 use Rattle.layout.specs.Sizes.{OPEN, pageLen}
 use Rattle.layout.specs.Fields.{openedWord, closedWord, upWord, leftWord, childWord, rightWord, tagWord, readingWord, fromWord, toWord}
 use Rattle.layout.specs.Program.{Prog, ret, when, _>>=_, _>>_, get!, set!, wipe!, each}
+pub use Rattle.layout.specs.Places.{placeOf, blockOf, slotOf}
 use Rattle.layout.specs.Cursor.{at, filled, grown, relinked, storeCursor}
-
--- ---- places: slot k (from 0) of block n has place (n − 1) × b + k + 1
-abbrev pub placeOf : Settings → ℕ → ℕ → ℕ
-placeOf s n k = (n - 1) * s .block + k + 1
-
-abbrev pub blockOf : Settings → ℕ → ℕ
-blockOf s p = (p - 1) / s .block + 1
-
-abbrev pub slotOf : Settings → ℕ → ℕ
-slotOf s p = (p - 1) % s .block
 
 -- ---- the parts of a change
 -- the opening second of block i + 1 on the three levels: each time, the first time of each 16, the first of each 16 of these

@@ -12,6 +12,7 @@ use Rattle.layout.specs.declared.address.Address.the-variants.{Dir, Field, Bits
 use Rattle.layout.specs.Sizes.{OPEN, headLen, rowLen, layoutLen}
 use Rattle.layout.specs.Fields.{upWord, rightWord, tagWord}
 use Rattle.layout.specs.Memory.{Memory}
+use Rattle.layout.specs.RefusalNumbers.{SETTINGS, SHORT-HEAD, HEAD, SHORT-STORE, TIME-OPEN, EARLY, LATE, TAG, STANDING, NOT-STANDING, SHORT-BUFFER, UNSOUND, OUT-OF-BLOCKS}
 use Rattle.layout.specs.Settings.{inLimits}
 use Rattle.layout.specs.Head.{headOf, badHead, placed}
 use Rattle.layout.specs.Standing.{slots, stands, raised, lowered}
@@ -104,32 +105,32 @@ blocksOut h incoming = opens h incoming && eqb (h .cursor .opened) (h .settings 
 -- ---- the tables
 abbrev pub startTests : Settings → List ℕ → List Test
 startTests s ws =
-    record { number = 1; applies = not (inLimits s) }
-    ∷ record { number = 2; applies = ltb (length ws) headLen }
-    ∷ record { number = 4; applies = ltb (length ws) (layoutLen s) } ∷ []
+    record { number = SETTINGS; applies = not (inLimits s) }
+    ∷ record { number = SHORT-HEAD; applies = ltb (length ws) headLen }
+    ∷ record { number = SHORT-STORE; applies = ltb (length ws) (layoutLen s) } ∷ []
 
 -- every other call reads the head, then looks at its second
 abbrev pub storeTests : List ℕ → List Test → List Test
 storeTests ws l =
-    record { number = 2; applies = ltb (length ws) headLen }
-    ∷ record { number = 3; applies = badHead ws }
-    ∷ record { number = 4; applies = ltb (length ws) (layoutLen (headOf ws .settings)) } ∷ l
+    record { number = SHORT-HEAD; applies = ltb (length ws) headLen }
+    ∷ record { number = HEAD; applies = badHead ws }
+    ∷ record { number = SHORT-STORE; applies = ltb (length ws) (layoutLen (headOf ws .settings)) } ∷ l
 
 -- a set's own
 abbrev pub setOwn : Head → Memory → ℕ → List Test
 setOwn h f tag =
-    record { number = 8; applies = leb (h .settings .tags) tag }
-    ∷ record { number = 9; applies = not (eqb (f (Dir tag)) 0) }
-    ∷ record { number = 12; applies = unsoundSet h f }
-    ∷ record { number = 13; applies = blocksOut h 1 } ∷ []
+    record { number = TAG; applies = leb (h .settings .tags) tag }
+    ∷ record { number = STANDING; applies = not (eqb (f (Dir tag)) 0) }
+    ∷ record { number = UNSOUND; applies = unsoundSet h f }
+    ∷ record { number = OUT-OF-BLOCKS; applies = blocksOut h 1 } ∷ []
 
 -- those of a clear (more = 0) or a new reading (more = 1)
 abbrev pub clearOwn : ℕ → Head → Memory → ℕ → List Test
 clearOwn more h f tag =
-    record { number = 8; applies = leb (h .settings .tags) tag }
-    ∷ record { number = 10; applies = eqb (f (Dir tag)) 0 }
-    ∷ record { number = 12; applies = unsoundClear h f more tag }
-    ∷ record { number = 13; applies = blocksOut h (copies h f (tagBlock h f tag) + more) } ∷ []
+    record { number = TAG; applies = leb (h .settings .tags) tag }
+    ∷ record { number = NOT-STANDING; applies = eqb (f (Dir tag)) 0 }
+    ∷ record { number = UNSOUND; applies = unsoundClear h f more tag }
+    ∷ record { number = OUT-OF-BLOCKS; applies = blocksOut h (copies h f (tagBlock h f tag) + more) } ∷ []
 
 -- a time that is OPEN (no word is above it)
 abbrev pub isOpen : ℕ → Bool
@@ -138,8 +139,8 @@ isOpen s = leb OPEN s
 -- a change or clock move at s
 abbrev pub timeTests : List ℕ → ℕ → List Test → List Test
 timeTests ws s l =
-    storeTests ws (record { number = 5; applies = isOpen s }
-    ∷ record { number = 6; applies = ltb s (headOf ws .cursor .clock) } ∷ l)
+    storeTests ws (record { number = TIME-OPEN; applies = isOpen s }
+    ∷ record { number = EARLY; applies = ltb s (headOf ws .cursor .clock) } ∷ l)
 
 abbrev pub setTests : List ℕ → Memory → ℕ → ℕ → List Test
 setTests ws f s tag = timeTests ws s (setOwn (headOf ws) f tag)
@@ -151,7 +152,7 @@ clearTests more ws f s tag = timeTests ws s (clearOwn more (headOf ws) f tag)
 abbrev pub lookBackTests : List ℕ → ℕ → ℕ → ℕ → Bool → List Test
 lookBackTests ws t rows list unsound =
     let h = headOf ws in
-    storeTests ws (record { number = 5; applies = isOpen t }
-    ∷ record { number = 7; applies = ltb (h .cursor .clock) t }
-    ∷ record { number = 11; applies = ltb rows (rowLen * h .settings .tags) || ltb list (h .settings .blocks) }
-    ∷ record { number = 12; applies = unsound } ∷ [])
+    storeTests ws (record { number = TIME-OPEN; applies = isOpen t }
+    ∷ record { number = LATE; applies = ltb (h .cursor .clock) t }
+    ∷ record { number = SHORT-BUFFER; applies = ltb rows (rowLen * h .settings .tags) || ltb list (h .settings .blocks) }
+    ∷ record { number = UNSOUND; applies = unsound } ∷ [])

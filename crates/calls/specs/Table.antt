@@ -4,17 +4,22 @@ use mathlib.Core.Bool.{true}
 use mathlib.Core.List.{List, [], _∷_, _++_}
 use Prim.Native.Nat.{ℕ, _+_, _*_, _-_, _≤_}
 use lib.ListN.{length, replicate}
+use Rattle.layout.specs.declared.settings.Settings.{Settings}
 use Rattle.layout.specs.declared.address.Address.the-variants.{Field}
 use Rattle.layout.specs.Sizes.{OPEN}
 use Rattle.layout.specs.Fields.{closedWord}
+use Rattle.layout.specs.Settings.{settingsOf}
 use Rattle.layout.specs.Head.{headOf, placed}
-use Rattle.calls.specs.Calls.{Call, Start, Set, Clear, LookBack, Row, Answer, Shown, Refused, accepted}
+use Rattle.calls.specs.Calls.{Call, Start, Set, Clear, Ask, LookBack, Row, Answer, Shown, Refused, accepted}
 use Rattle.calls.specs.Step.{step, wordsRead}
 use Rattle.calls.specs.History.{wordsAfter, trace, opening, account}
 
 -- the printed settings b = 4, q = 2, B = 8, D = 16, on a store of 4,592 words
+abbrev pub settings : Settings
+settings = settingsOf 4 2 8 16
+
 unfoldable pub fresh : List ℕ
-fresh = step (replicate 4592 9) (Start 4 2 8 16) .store
+fresh = step (replicate 4592 9) (Start settings) .store
 
 -- the printed changes up to second 7, and the last
 abbrev pub upTo7 : List Call
@@ -32,7 +37,7 @@ after8 = wordsAfter after7 (Clear 8 1 ∷ [])
 
 -- what a look-back with buffers of 32 and 8 words answers
 abbrev pub seenAt : List ℕ → ℕ → Answer
-seenAt ws t = step ws (LookBack t (replicate 32 0) (replicate 8 0)) .answer
+seenAt ws t = step ws (Ask (LookBack t (replicate 32 0) (replicate 8 0))) .answer
 
 abbrev pub row : ℕ → ℕ → Row
 row tag reading = record { tag = tag; reading = reading }
@@ -60,16 +65,16 @@ pub record Table : Type 0 where
   pub p4 : seenAt after8 0 ≡ view [] [] onePage 1
   -- P5 after 8: 6 records, 6 × 3 ≤ 5 × 4
   pub p5 : placed (headOf after8) ≡ 6
-  pub p5-sets : account (opening 4 2) (trace fresh printed) .sets ≡ 5
-  pub p5-bound : placed (headOf after8) * (4 - 2 + 1) ≤ 4 * account (opening 4 2) (trace fresh printed) .sets
+  pub p5-sets : account (opening settings) (trace fresh printed) .sets ≡ 5
+  pub p5-bound : placed (headOf after8) * (4 - 2 + 1) ≤ 4 * account (opening settings) (trace fresh printed) .sets
   -- P6 block 1 closes at 8, not at 7
   pub p6-not : wordsRead after7 (Field 1 closedWord) ≡ OPEN
   pub p6 : wordsRead after8 (Field 1 closedWord) ≡ 8
   -- P7 fresh register at 0: no rows, 0 pages
   pub p7 : seenAt fresh 0 ≡ view [] [] noPage 0
   -- P8 q = 2, b = 4 passes; b = 3 is refusal 1
-  pub p8 : accepted (step (replicate 4592 9) (Start 4 2 8 16) .answer) ≡ true
-  pub p8-not : (ws : List ℕ) → step ws (Start 3 2 8 16) .answer ≡ Refused 1
+  pub p8 : accepted (step (replicate 4592 9) (Start settings) .answer) ≡ true
+  pub p8-not : (ws : List ℕ) → step ws (Start (settingsOf 3 2 8 16)) .answer ≡ Refused 1
   -- P9 a set of tag 6 at 8, the clock, passes
   pub p9 : (reading : ℕ) → accepted (step after8 (Set 8 6 reading) .answer) ≡ true
   -- P10 at 7: 6
@@ -78,8 +83,8 @@ pub record Table : Type 0 where
   pub p11 : (reading : ℕ) → accepted (step after8 (Set 8 15 reading) .answer) ≡ true
   pub p11-not : (reading : ℕ) → step after8 (Set 8 16 reading) .answer ≡ Refused 8
   -- P12 this layout: 4,592 words pass, 4,591 give 4
-  pub p12 : (ws : List ℕ) → length ws ≡ 4592 → accepted (step ws (Start 4 2 8 16) .answer) ≡ true
-  pub p12-not : (ws : List ℕ) → length ws ≡ 4591 → step ws (Start 4 2 8 16) .answer ≡ Refused 4
+  pub p12 : (ws : List ℕ) → length ws ≡ 4592 → accepted (step ws (Start settings) .answer) ≡ true
+  pub p12-not : (ws : List ℕ) → length ws ≡ 4591 → step ws (Start settings) .answer ≡ Refused 4
   -- slips to shut out, beyond those that P1 to P12 notice: the acceptor is not judged on a clear, though none stands in it
   pub slip-acceptor : wordsRead (wordsAfter fresh (Set 1 1 25 ∷ Clear 2 1 ∷ [])) (Field 1 closedWord) ≡ OPEN
   -- of the blocks opened in one second the last starts the path

@@ -23,7 +23,8 @@ use Rattle.layout.specs.OnWords.{over}
 use Rattle.calls.specs.Placing.{enterTime, openBlock, unlink, endRecord, standing, putRecord, moveRecord, closeFull, judgeFull, roll, makeRoom, place, replace, close, judge, clearTag, finish, setProgram, clearProgram, updateProgram, advanceProgram}
 use Rattle.calls.specs.Walk.{lastUpTo, entries, topLevel, lookUp, descend, search, rowOf, rowsOf, neighbour, visit, path, look}
 use Rattle.calls.specs.Refusals.{refusal, setTests, badPlace, badBlock, unsoundSet, unsoundClear, blocksOut}
-use Rattle.calls.specs.Step.{start, set, clear, update, advance, reader, lookAt, lookBack}
+use Rattle.calls.specs.LookBack.{reader, lookAt, lookBack}
+use Rattle.calls.specs.Step.{start, set, clear, update, advance}
 use Rattle.calls.specs.Book.{writes}
 use Rattle.calls.specs.Table.{Table, fresh, after7, after8}
 

@@ -1,5 +1,5 @@
 -- From a verdict to the reply: a call turned away leaves all words, a call that goes on leaves those of its program. Where it goes on, its program may run.
-use mathlib.Core.Path.{_≡_, refl, sym, ap, _∙_, subst}
+use mathlib.Core.Path.{_≡_, refl, sym, ap, ap₂, _∙_, subst}
 use mathlib.Core.Logic.{_≢_}
 use mathlib.Core.List.{List, []}
 use Prim.Native.Nat.{ℕ, zero, suc, _≤_}
@@ -9,9 +9,9 @@ use Rattle.layout.specs.declared.settings.Settings.{Settings}
 use Rattle.layout.specs.declared.head.Cursor.{Cursor}
 use Rattle.layout.specs.declared.head.Head.{Head}
 use Rattle.layout.specs.Program.{Prog, run}
-use Rattle.layout.specs.Head.{headOf, withHead, cleared}
+use Rattle.layout.specs.Head.{onward, headOf, withHead, cleared}
 use Rattle.layout.specs.OnWords.{over}
-use Rattle.layout.specs.Ran.{Ran}
+use Rattle.layout.specs.Moved.{Moved, next-head}
 use Rattle.layout.specs.Able.{Able}
 use Rattle.calls.specs.Calls as calls
 use Rattle.calls.specs.Placing.{setProgram, clearProgram, updateProgram, advanceProgram}
@@ -44,18 +44,15 @@ pub turned-away : (l : List Test) (ws : List ℕ) (p : Prog Cursor) {n : ℕ} �
 turned-away l ws p {n} e =
     let r = refused l (headOf ws) n e in
     let left = run (over (headOf ws .settings)) p ws in
-    reply-away l ws (calls.Done (record { settings = headOf ws .settings; cursor = left .0 })) (left .1) (r .0) (r .1)
+    reply-away l ws (calls.Done (onward (headOf ws) (left .0))) (left .1) (r .0) (r .1)
 
-pub carried-out : (l : List Test) (ws : List ℕ) (p : Head → Prog Cursor) {h : Head} {c : Cursor} {us : List ℕ} → verdict l (headOf ws) ≡ verdict.Go h
-    → Ran (over (h .settings)) (p h) ws c us → Replied (change l ws (p (headOf ws))) (Done (record { settings = h .settings; cursor = c })) us
-carried-out l ws p {h} {c} {us} e r =
+pub carried-out : (l : List Test) (ws : List ℕ) (p : Head → Prog Cursor) {h r : Head} {us : List ℕ} → verdict l (headOf ws) ≡ verdict.Go h
+    → Moved h (p h) ws r us → Replied (change l ws (p (headOf ws))) (Done r) us
+carried-out l ws p {h} {r} {us} e m =
     let g = gone l (headOf ws) h e in
-    let q = subst (λ (x : Head). Ran (over (x .settings)) (p x) ws c us) (g .1) r in
+    let n = subst (λ (x : Head). Moved x (p x) ws r us) (g .1) m in
     let left = run (over (headOf ws .settings)) (p (headOf ws)) ws in
-    reply-done l ws (calls.Done (record { settings = headOf ws .settings; cursor = left .0 })) (left .1) (g .0)
-    (ap (λ (x : Head). calls.Done (record { settings = x .settings; cursor = c })) (g .1)
-    ∙ ap (λ (d : Cursor). calls.Done (record { settings = headOf ws .settings; cursor = d })) (sym (q .value)))
-    (sym (q .words))
+    reply-done l ws (calls.Done (onward (headOf ws) (left .0))) (left .1) (g .0) (ap calls.Done (next-head n)) (sym (n .ran .words))
 
 -- ---- where it goes on, its program may run
 module _ (ws : List ℕ) (s : ℕ) where
@@ -103,11 +100,12 @@ module _ (ws : List ℕ) (s : Settings) where
       let r = start-refused (startTests s ws) s n e in
       reply-away (startTests s ws) ws (calls.Done (freshHead s)) (withHead (freshHead s) (cleared s ws)) (r .0) (r .1)
 
-  pub start-done : {s′ : Settings} {us : List ℕ} → startVerdict (startTests s ws) s ≡ on-start.Go s′
-      → us ≡ withHead (freshHead s′) (cleared s′ ws) → Replied (start ws s) (Done (freshHead s′)) us
+  pub start-done : {s′ : Settings} {h : Head} {us : List ℕ} → startVerdict (startTests s ws) s ≡ on-start.Go s′ → h ≡ freshHead s′
+      → us ≡ withHead h (cleared s′ ws) → Replied (start ws s) (Done h) us
   unfolding start
-  start-done {s′} {us} e w =
+  start-done {s′} {h} {us} e f w =
       let g = start-gone (startTests s ws) s s′ e in
+      let i : h ≡ freshHead s = f ∙ ap freshHead (g .1) in
       reply-done (startTests s ws) ws (calls.Done (freshHead s)) (withHead (freshHead s) (cleared s ws)) (g .0)
-      (ap (λ (x : Settings). calls.Done (freshHead x)) (g .1))
-      (w ∙ ap (λ (x : Settings). withHead (freshHead x) (cleared x ws)) (g .1))
+      (ap calls.Done i)
+      (w ∙ ap₂ (λ (x : Head) (y : Settings). withHead x (cleared y ws)) i (g .1))

@@ -7,11 +7,10 @@
 use decisions::StartVerdict;
 use decisions::Verdict;
 use layout::head;
-use layout::head::Cursor;
 use layout::head::Head;
+use layout::settings::Settings;
 ghost use Prim.Native.Nat.{_≤_};
 ghost use Rattle.calls.specs.Step.{start, set, clear, update, advance};
-ghost use Rattle.decisions.specs.Start.{settingsOf};
 ghost use Rattle.changes.specs.Replied.{Replied, clearing};
 
 // What a call answers: the next head, or its refusal by the paper's number.
@@ -21,27 +20,17 @@ pub enum Change {
 }
 
 // A new register: the layout filled with zeros, then the head.
-pub fn start(store: &mut [u32], block: u32, useful: u32, blocks: u32, tags: u32) -> Change
-    ensures { λ r. ⌜ Replied (start (now (store .entry)) (settingsOf block useful blocks tags)) r (now (store .exit)) ⌝ }
+pub fn start(store: &mut [u32], asked: Settings) -> Change
+    ensures { λ r. ⌜ Replied (start (now (store .entry)) asked) r (now (store .exit)) ⌝ }
 {
-    let verdict = decisions::decide_start(store, block, useful, blocks, tags);
+    let verdict = decisions::decide_start(store, asked);
     match verdict {
         StartVerdict::Refused(n) => Change::Refused(n),
         StartVerdict::Go(s) => {
+            let fresh = Head::fresh(s);
             head::clear_layout(store, s);
-            let c = Cursor {
-                opened: 0,
-                clock: 0,
-                fill: 0,
-                child: 0,
-                right: 0,
-            };
-            let h = Head {
-                settings: s,
-                cursor: c,
-            };
-            head::write_head(store, h);
-            Change::Done(h)
+            head::write_head(store, fresh);
+            Change::Done(fresh)
         }
     }
 }
@@ -54,13 +43,8 @@ pub fn set(store: &mut [u32], second: u32, tag: u32, reading: u32) -> Change
     match verdict {
         Verdict::Refused(n) => Change::Refused(n),
         Verdict::Go(h) => {
-            let s = h.settings;
-            let c = h.cursor;
-            let next = placing::changes::set_program(store, s, c, second, tag, reading);
-            Change::Done(Head {
-                settings: s,
-                cursor: next,
-            })
+            let next = placing::changes::set_program(store, h, second, tag, reading);
+            Change::Done(next)
         }
     }
 }
@@ -74,13 +58,8 @@ fn clearing(store: &mut [u32], second: u32, tag: u32, more: u32, reading: u32) -
     match verdict {
         Verdict::Refused(n) => Change::Refused(n),
         Verdict::Go(h) => {
-            let s = h.settings;
-            let c = h.cursor;
-            let next = placing::changes::clearing_program(store, s, c, second, tag, more, reading);
-            Change::Done(Head {
-                settings: s,
-                cursor: next,
-            })
+            let next = placing::changes::clearing_program(store, h, second, tag, more, reading);
+            Change::Done(next)
         }
     }
 }
@@ -107,13 +86,8 @@ pub fn advance(store: &mut [u32], second: u32) -> Change
     match verdict {
         Verdict::Refused(n) => Change::Refused(n),
         Verdict::Go(h) => {
-            let s = h.settings;
-            let c = h.cursor;
-            let next = placing::changes::advance_program(store, s, c, second);
-            Change::Done(Head {
-                settings: s,
-                cursor: next,
-            })
+            let next = placing::changes::advance_program(store, h, second);
+            Change::Done(next)
         }
     }
 }

@@ -16,7 +16,8 @@ use Rattle.layout.specs.OnWords.{over}
 use Rattle.calls.specs.Placing.{enterTime, openBlock, unlink, endRecord, standing, putRecord, moveRecord, closeFull, judgeFull, roll, makeRoom, place, replace, close, judge, clearTag, finish, setProgram, clearProgram, updateProgram, advanceProgram}
 use Rattle.calls.specs.Walk.{lastUpTo, entries, topLevel, lookUp, descend, search, rowOf, rowsOf, neighbour, visit, path, look}
 use Rattle.calls.specs.Refusals.{badPlace, badBlock, unsoundSet, unsoundClear, blocksOut}
-use Rattle.calls.specs.Step.{start, set, clear, update, advance, reader, lookAt, lookBack}
+use Rattle.calls.specs.LookBack.{reader, lookAt, lookBack}
+use Rattle.calls.specs.Step.{start, set, clear, update, advance}
 use Rattle.console_text.specs.Bytes.{bytes}
 use Rattle.console_text.specs.Decimal.{digitsBefore, decimal, readOn, spareZero, numberOf, wordOf, negated, readingOf}
 use Rattle.console_text.specs.Reading.{isBelow, sizeOf, tenthsOf, signBytes, knBytes}

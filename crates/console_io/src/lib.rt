@@ -1,23 +1,31 @@
 // THE CONSOLE OVER DESCRIPTORS: input is read in chunks and fed byte by byte, and each output line is written, or compared with an expected one.
-// The state follows `fedAll` of console_run's specs/Feed.antt. What is read and written no contract can say: that each step's lines go out, as in
-// `driven` there, is read off feed_one and finish.
+// For the bytes that the reads leave in their buffer, the lines handed to `sink::emit` are the console's output (specs/Session.antt). What the
+// operating system reads and writes no contract can say.
 pub mod sink;
 
+use console_run::feed::COUNT_MOST;
 use console_run::feed::Console;
 use console_run::print;
 use console_run::turn::Said;
 use console_run::turn::Stage;
+use console_text::gather::LINE_MOST;
+use console_text::print::LINE_ROOM;
 use sink::Sink;
 ghost use mathlib.Core.Path.{_≡_};
-ghost use Rattle.console_run.specs.Feed.{isOver, state, fedAll};
-ghost use Rattle.console_run.specs.FeedLaws.{afterByte};
+ghost use mathlib.Core.List.{[]};
+ghost use lib.ListN.{getD};
+ghost use Rattle.console_text.specs.Output.{outputNames};
+ghost use Rattle.console_run.specs.Console.{saidLines};
+ghost use Rattle.console_run.specs.Feed.{isOver, state, finishLines};
+ghost use Rattle.console_io.specs.Sinks.{Emitted, Sent};
+ghost use Rattle.console_io.specs.Session.{running, FedByte, FedBytes, FedRead, ReadSome, ReadAll, Ran};
 
 // The store, and buffers that are large enough for every settings.
 const STORE: usize = 16000;
 
-const ROWS: usize = 8192;
-
 const LIST: usize = 4096;
+
+const ROWS: usize = print::ROW_LEN * LIST;
 
 // A run so far.
 struct Session {
@@ -32,14 +40,18 @@ enum Part {
 }
 
 // The i-th line of what is said.
-fn print_one(sink: Sink, said: Said, number: u64, rows: &[u32], i: u64) -> Sink {
-    let mut out = [0u8; 64];
+fn print_one(sink: Sink, said: Said, number: u64, rows: &[u32], i: u64) -> Sink
+    ensures { λ r. ⌜ Emitted (getD (saidLines said number (now (rows .entry))) i []) sink r ⌝ }
+{
+    let mut out = [0u8; LINE_ROOM];
     let n = print::put_line(&mut out, said, number, rows, i);
     sink::emit(sink, &out[..n])
 }
 
 // Every line of what is said.
-fn print_said(sink: Sink, said: Said, number: u64, rows: &[u32]) -> Sink {
+fn print_said(sink: Sink, said: Said, number: u64, rows: &[u32]) -> Sink
+    ensures { λ r. ⌜ Sent sink (saidLines said number (now (rows .entry))) r ⌝ }
+{
     let count = print::line_count(said);
     let mut next = sink;
     let mut i: u64 = 0;
@@ -50,8 +62,10 @@ fn print_said(sink: Sink, said: Said, number: u64, rows: &[u32]) -> Sink {
     next
 }
 
-fn print_names(sink: Sink) -> Sink {
-    let mut out = [0u8; 64];
+fn print_names(sink: Sink) -> Sink
+    ensures { λ r. ⌜ Emitted outputNames sink r ⌝ }
+{
+    let mut out = [0u8; LINE_ROOM];
     let n = console_text::print::put_names(&mut out);
     sink::emit(sink, &out[..n])
 }
@@ -71,12 +85,14 @@ fn is_over(stage: Stage) -> bool
 fn feed_one(
     session: Session,
     byte: u8,
-    line: &mut [u8; 80],
+    line: &mut [u8; LINE_MOST],
     store: &mut [u32; STORE],
     rows: &mut [u32; ROWS],
     list: &mut [u32; LIST],
 ) -> Session
-    ensures { λ r. ⌜ state (r .console) (now (line .exit)) (now (store .exit)) (now (rows .exit)) (now (list .exit)) ≡ afterByte (state (session .console) (now (line .entry)) (now (store .entry)) (now (rows .entry)) (now (list .entry))) byte ⌝ }
+    ensures { λ r. ⌜ FedByte byte
+        (running session (now (line .entry)) (now (store .entry)) (now (rows .entry)) (now (list .entry)))
+        (running r (now (line .exit)) (now (store .exit)) (now (rows .exit)) (now (list .exit))) ⌝ }
 {
     let console = session.console;
     let sink = session.sink;
@@ -93,12 +109,14 @@ fn feed_one(
 fn feed_all(
     session: Session,
     bytes: &[u8],
-    line: &mut [u8; 80],
+    line: &mut [u8; LINE_MOST],
     store: &mut [u32; STORE],
     rows: &mut [u32; ROWS],
     list: &mut [u32; LIST],
 ) -> Session
-    ensures { λ r. ⌜ state (r .console) (now (line .exit)) (now (store .exit)) (now (rows .exit)) (now (list .exit)) ≡ fedAll (state (session .console) (now (line .entry)) (now (store .entry)) (now (rows .entry)) (now (list .entry))) (now (bytes .entry)) ⌝ }
+    ensures { λ r. ⌜ FedBytes (now (bytes .entry))
+        (running session (now (line .entry)) (now (store .entry)) (now (rows .entry)) (now (list .entry)))
+        (running r (now (line .exit)) (now (store .exit)) (now (rows .exit)) (now (list .exit))) ⌝ }
 {
     let mut next = session;
     let mut i = 0;
@@ -114,41 +132,68 @@ fn feed_all(
     next
 }
 
-fn read_some(
+// What a read that answered `got` left at the start of the chunk.
+fn feed_read(
     session: Session,
-    input: i32,
-    line: &mut [u8; 80],
+    got: isize,
+    chunk: &[u8],
+    line: &mut [u8; LINE_MOST],
     store: &mut [u32; STORE],
     rows: &mut [u32; ROWS],
     list: &mut [u32; LIST],
-) -> Part {
-    let mut chunk = io::buffer();
-    let got = libc::read(input, &mut chunk);
-    if got <= 0 {
+) -> Part
+    ensures { λ r. ⌜ FedRead got (now (chunk .entry))
+        (running session (now (line .entry)) (now (store .entry)) (now (rows .entry)) (now (list .entry)))
+        r (now (line .exit)) (now (store .exit)) (now (rows .exit)) (now (list .exit)) ⌝ }
+{
+    let n = io::count(got, chunk);
+    if n == 0 {
         return Part::End;
     }
-    let n = io::count(got, &chunk);
     Part::Fed(feed_all(session, &chunk[..n], line, store, rows, list))
+}
+
+// One read into the chunk. What it answers no contract can say.
+fn read_some(
+    session: Session,
+    input: i32,
+    chunk: &mut [u8],
+    line: &mut [u8; LINE_MOST],
+    store: &mut [u32; STORE],
+    rows: &mut [u32; ROWS],
+    list: &mut [u32; LIST],
+) -> Part
+    ensures { λ r. ⌜ ReadSome (now (chunk .exit))
+        (running session (now (line .entry)) (now (store .entry)) (now (rows .entry)) (now (list .entry)))
+        r (now (line .exit)) (now (store .exit)) (now (rows .exit)) (now (list .exit)) ⌝ }
+{
+    let got = libc::read(input, chunk);
+    feed_read(session, got, chunk, line, store, rows, list)
 }
 
 // The whole input. Nothing says that an input ends, so the reads are counted down from a number that no input uses up.
 fn read_all(
     session: Session,
     input: i32,
-    line: &mut [u8; 80],
+    line: &mut [u8; LINE_MOST],
     store: &mut [u32; STORE],
     rows: &mut [u32; ROWS],
     list: &mut [u32; LIST],
-) -> Session {
+) -> Session
+    ensures { λ r. ⌜ ReadAll
+        (running session (now (line .entry)) (now (store .entry)) (now (rows .entry)) (now (list .entry)))
+        (running r (now (line .exit)) (now (store .exit)) (now (rows .exit)) (now (list .exit))) ⌝ }
+{
+    let mut chunk = io::buffer();
     let mut next = session;
-    let mut reads: u64 = 18446744073709551615;
+    let mut reads = COUNT_MOST;
     while 0 < reads {
         let console = next.console;
         let stage = console.stage;
         if is_over(stage) {
             return next;
         }
-        let Part::Fed(more) = read_some(next, input, line, store, rows, list) else {
+        let Part::Fed(more) = read_some(next, input, &mut chunk, line, store, rows, list) else {
             return next;
         };
         next = more;
@@ -160,11 +205,14 @@ fn read_all(
 // The last line, which may lack its newline; then a line that is missing.
 fn finish(
     session: Session,
-    line: &[u8; 80],
+    line: &[u8; LINE_MOST],
     store: &mut [u32; STORE],
     rows: &mut [u32; ROWS],
     list: &mut [u32; LIST],
-) -> Sink {
+) -> Sink
+    ensures { λ r. ⌜ Sent (session .sink) (finishLines
+        (state (session .console) (now (line .entry)) (now (store .entry)) (now (rows .entry)) (now (list .entry)))) r ⌝ }
+{
     let console = session.console;
     let sink = session.sink;
     let step = console.last(line, store, rows, list);
@@ -176,8 +224,10 @@ fn finish(
 }
 
 // The console's run over all that the descriptor `input` gives.
-pub fn run(input: i32, sink: Sink) -> Sink {
-    let mut line = [0u8; 80];
+pub fn run(input: i32, sink: Sink) -> Sink
+    ensures { λ r. ⌜ Ran sink r ⌝ }
+{
+    let mut line = [0u8; LINE_MOST];
     let mut store = [0u32; STORE];
     let mut rows = [0u32; ROWS];
     let mut list = [0u32; LIST];

@@ -1,5 +1,8 @@
 // Where output lines go.
 use console_run::feed::next_number;
+ghost use mathlib.Core.Path.{_≡_};
+ghost use Prim.Native.Nat.{_-_};
+ghost use Rattle.console_io.specs.Sinks.{Emitted, FirstDifference};
 
 pub enum Sink {
     // written to a descriptor
@@ -8,6 +11,8 @@ pub enum Sink {
     Compare(i32, u64),
     // this line, counted from 1, was not as expected
     Differs(u64),
+    // one line alone is written to a descriptor: the one that is so many lines on, 1 being the next
+    Pick(i32, u64),
 }
 
 // The next byte that a descriptor gives.
@@ -43,7 +48,9 @@ fn gives_all(fd: i32, bytes: &[u8]) -> bool {
 }
 
 // At the end of a compared run: the first line, counted from 1, that differs, be it one that was expected and did not come; 0 if none does.
-pub fn first_difference(sink: Sink) -> u64 {
+pub fn first_difference(sink: Sink) -> u64
+    ensures { λ r. ⌜ FirstDifference sink r ⌝ }
+{
     match sink {
         Sink::Write(_) => 0,
         Sink::Compare(fd, equal) => match next_byte(fd) {
@@ -51,15 +58,31 @@ pub fn first_difference(sink: Sink) -> u64 {
             Next::End => 0,
         },
         Sink::Differs(lines) => lines,
+        Sink::Pick(_, _) => 0,
     }
 }
 
+// A line for a sink that picks: how many are left to come after it.
+fn pass(fd: i32, left: u64, line: &[u8]) -> u64
+    ensures { λ r. ⌜ r ≡ left - 1 ⌝ }
+{
+    if left == 0 {
+        return 0;
+    }
+    if left == 1 {
+        io::write_all(fd, line);
+    }
+    left - 1
+}
+
 // One line goes out.
-pub(crate) fn emit(sink: Sink, line: &[u8]) -> Sink {
+pub(crate) fn emit(sink: Sink, line: &[u8]) -> Sink
+    ensures { λ r. ⌜ Emitted (now (line .entry)) sink r ⌝ }
+{
     match sink {
         Sink::Write(fd) => {
             io::write_all(fd, line);
-            Sink::Write(fd)
+            sink
         }
         Sink::Compare(fd, equal) => {
             let lines = next_number(equal);
@@ -69,6 +92,7 @@ pub(crate) fn emit(sink: Sink, line: &[u8]) -> Sink {
                 Sink::Differs(lines)
             }
         }
-        Sink::Differs(lines) => Sink::Differs(lines),
+        Sink::Differs(_) => sink,
+        Sink::Pick(fd, left) => Sink::Pick(fd, pass(fd, left, line)),
     }
 }

@@ -5,12 +5,13 @@ use mathlib.Core.List.{List, [], _∷_, _++_}
 use Prim.Native.Nat.{ℕ, zero, suc, _+_, _*_}
 use lib.Dec.{eqb}
 use lib.ListN.{getD, replicate}
+use Rattle.layout.specs.Settings.{settingsOf}
 use Rattle.calls.specs.Step.{step}
 use Rattle.applying.specs.declared.call.Call.{Call}
 use Rattle.applying.specs.declared.call.Call.the-variants as call
 use Rattle.applying.specs.declared.call.Answer.{Answer}
 use Rattle.applying.specs.declared.call.Answer.the-variants.{Done, Shown, Refused}
-use Rattle.applying.specs.Applied.{callOf, answerOf, bufferAfter}
+use Rattle.applying.specs.Applied.{callOf, answerOf, buffersAfter}
 use Rattle.console_text.specs.declared.parse.SettingsLine.{SettingsLine}
 use Rattle.console_text.specs.declared.parse.SettingsLine.the-variants as settings
 use Rattle.console_text.specs.declared.parse.Line.{Line}
@@ -79,12 +80,12 @@ answered done refused time (Refused n) = says refused (No time n)
 unfoldable pub called : Stage → Stage → ℕ → Call → Lent → Does
 called done refused time call words =
     let reply = step (words .store) (callOf call (words .rows) (words .list)) in
-    does (answered done refused time (answerOf (reply .answer))) (reply .store)
-    (bufferAfter call (words .rows) (reply .rows)) (bufferAfter call (words .list) (reply .list))
+    let after = buffersAfter call (words .rows) (words .list) (reply .lent) in
+    does (answered done refused time (answerOf (reply .answer))) (reply .store) (getD after 0 []) (getD after 1 [])
 
 -- "Start is called before the third line is read; refused, it prints `no` at time 0 and ends the run."
 unfoldable pub settingsDo : SettingsLine → Lent → Does
-settingsDo (settings.Values b q blocks tags) words = called ChangeNames Over 0 (call.Start b q blocks tags) words
+settingsDo (settings.Values b q blocks tags) words = called ChangeNames Over 0 (call.Start (settingsOf b q blocks tags)) words
 settingsDo settings.Bad words = only (badAt Settings) words
 
 -- "Signs: + set, - clear, = new reading, . clock, ? look back"

@@ -11,7 +11,7 @@ use Rattle.console_run.specs.declared.turn.Stage.the-variants.{SettingsN
 use Rattle.console_run.specs.declared.turn.Said.the-variants.{Nothing}
 use Rattle.console_run.specs.declared.feed.Console.{Console}
 use Rattle.console_run.specs.declared.feed.Step.{Step}
-use Rattle.console_run.specs.Console.{Lent, lent, lineDoes, saidBytes, missing}
+use Rattle.console_run.specs.Console.{Lent, lent, lineDoes, saidLines, joined, saidBytes, missing}
 
 -- A step, with the line's buffer and the lent words after it.
 pub record Stepped : Type 0 where
@@ -85,9 +85,12 @@ fedAll s (x ∷ more) =
     let f = fed (s .console) (s .line) (s .lent) x in
     cond (isOver (s .console .stage)) s (fedAll (record { console = f .step .console; line = f .line; lent = f .lent }) more)
 
--- What a step prints.
+-- The output lines of a step, and their bytes.
+abbrev pub stepLines : Stepped → List (List ℕ)
+stepLines s = saidLines (s .step .said) (s .step .number) (s .lent .rows)
+
 abbrev pub stepBytes : Stepped → List ℕ
-stepBytes s = saidBytes (s .step .said) (s .step .number) (s .lent .rows)
+stepBytes s = joined (stepLines s)
 
 -- At the end: the last line, then a missing one.
 unfoldable pub finish : Console → List ℕ → Lent → List ℕ
@@ -101,3 +104,22 @@ driven c line words [] = finish c line words
 driven c line words (x ∷ more) =
     let s = fed c line words x in
     cond (isOver (c .stage)) (finish c line words) (stepBytes s ++ driven (s .step .console) (s .line) (s .lent) more)
+
+-- ---- the same, line by line
+
+-- The output lines for these bytes, as long as the run is not over.
+unfoldable pub fedLines : State → List ℕ → List (List ℕ)
+fedLines s [] = []
+fedLines s (x ∷ more) =
+    let f = fed (s .console) (s .line) (s .lent) x in
+    cond (isOver (s .console .stage)) [] (stepLines f ++ fedLines (record { console = f .step .console; line = f .line; lent = f .lent }) more)
+
+-- Those at the end of the input.
+unfoldable pub finishLines : State → List (List ℕ)
+finishLines s =
+    let t = lastTaken (s .console) (s .line) (s .lent) in
+    stepLines t ++ saidLines (missing (t .step .console .stage)) (t .step .console .number) (t .lent .rows)
+
+-- Those for an input from here on.
+unfoldable pub runLines : State → List ℕ → List (List ℕ)
+runLines s input = fedLines s input ++ finishLines (fedAll s input)

@@ -2,11 +2,10 @@
 use mathlib.Core.Path.{_≡_, refl, sym, _∙_}
 use mathlib.Core.Bool.{Bool, true, false, cond}
 use mathlib.Core.List.{List, [], _∷_, _++_}
-use Prim.Native.Nat.{ℕ, suc, _+_, _≤_, _<_}
+use Prim.Native.Nat.{ℕ, suc, _+_, _<_}
 use native.Mathlib.Omega.{arith}
 use native.Mathlib.Numerals.{add-one}
-use lib.ListN.{length, getD, drop, drop-of-length-le}
-use lib.Seq.{drop-cons}
+use lib.ListN.{length}
 use borrow.Author.Tests.{lt-ltb, eq-eqb, ne-eqb}
 use Rattle.base.specs.Branch.{by-test, is?}
 use Rattle.console_text.specs.declared.gather.Gather.{Gather}
@@ -20,9 +19,8 @@ use Rattle.console_run.specs.declared.turn.Stage.the-variants.{SettingsN
 use Rattle.console_run.specs.declared.turn.Said.the-variants.{Nothing}
 use Rattle.console_run.specs.declared.turn.Turn.{Turn}
 use Rattle.console_run.specs.declared.feed.Console.{Console}
-use Rattle.console_run.specs.declared.feed.Step.{Step}
 use Rattle.console_run.specs.Console.{Lent, does, textDoes, lineDoes, saidLines, joined, saidBytes, missing, consoleFrom, blank, consoleOutput}
-use Rattle.console_run.specs.Feed.{Stepped, stepped, begun, nextNumber, quiet, taken, fedBy, fed, lastTaken, isOver, State, state, fedAll, stepBytes, finish, driven}
+use Rattle.console_run.specs.Feed.{Stepped, stepped, begun, nextNumber, quiet, taken, fedBy, fed, lastTaken, isOver, State, fedAll, stepBytes, finish, driven}
 
 -- ---- a step
 module _ (c : Console) (line : List ℕ) (words : Lent) where
@@ -59,20 +57,16 @@ afterByte s x =
     let f = fed (s .console) (s .line) (s .lent) x in
     record { console = f .step .console; line = f .line; lent = f .lent }
 
-pub byte-fed : {r : Step} {line store rows list : List ℕ} {t : Stepped} → stepped r line store rows list ≡ t
-    → state (r .console) line store rows list ≡ record { console = t .step .console; line = t .line; lent = t .lent }
-byte-fed e = rw (← e)
-
 pub all-over : (s : State) (input : List ℕ) → isOver (s .console .stage) ≡ true → fedAll s input ≡ s
 unfolding fedAll
 all-over s [] e = refl
 all-over s (x ∷ more) e = rw e
 
-all-more : (s : State) (x : ℕ) (more : List ℕ) → isOver (s .console .stage) ≡ false → fedAll s (x ∷ more) ≡ fedAll (afterByte s x) more
+pub all-more : (s : State) (x : ℕ) (more : List ℕ) → isOver (s .console .stage) ≡ false → fedAll s (x ∷ more) ≡ fedAll (afterByte s x) more
 unfolding fedAll
 all-more s x more e = rw e
 
-all-none : (s : State) → fedAll s [] ≡ s
+pub all-none : (s : State) → fedAll s [] ≡ s
 unfolding fedAll
 all-none s = refl
 
@@ -82,28 +76,6 @@ in-chunks s [] more = rw (all-none s)
 in-chunks s (x ∷ chunk) more = by-test (isOver (s .console .stage)) (λ b. fedAll (fedAll s (x ∷ chunk)) more ≡ fedAll s (x ∷ (chunk ++ more)))
     (λ e. rw (all-over s (x ∷ chunk) e, all-over s more e, all-over s (x ∷ (chunk ++ more)) e))
     (λ e. rw (all-more s x chunk e, all-more s x (chunk ++ more) e) (in-chunks (afterByte s x) chunk more))
-
--- The first i bytes of an input are fed, and the rest is left.
-pub record FedTo (s : State) (input : List ℕ) (i : ℕ) (now : State) : Type 0 where
-  pub within : i ≤ length input
-  pub rest : fedAll s input ≡ fedAll now (drop i input)
-
-pub fed-none : (s : State) (input : List ℕ) → FedTo s input 0 s
-fed-none s input = record { within = omega arith; rest = refl }
-
-module _ {s t : State} {input : List ℕ} {i : ℕ} (f : FedTo s input i t) where
-  pub fed-over : isOver (t .console .stage) ≡ true → t ≡ fedAll s input
-  fed-over e = sym (f .rest ∙ all-over t (drop i input) e)
-
-  pub fed-whole : length input ≤ i → t ≡ fedAll s input
-  fed-whole h = sym (f .rest ∙ rw (drop-of-length-le input h) (all-none t))
-
-  pub fed-next : {u : State} {x : ℕ} → i < length input → isOver (t .console .stage) ≡ false → x ≡ getD input i 0 → u ≡ afterByte t x
-      → FedTo s input (i + 1) u
-  fed-next {u} {x} h o e g = record {
-    within = omega arith;
-    rest = f .rest ∙ rw (drop-cons input i 0 h, all-more t (getD input i 0) (drop (suc i) input) o, add-one i, g, e);
-  }
 
 -- ---- the whole input
 
@@ -176,25 +148,25 @@ module _ (c : Console) (line : List ℕ) (words : Lent) (x : ℕ) where
   unfolding gathered onFed fedAnswer
   gathered-other more n = rw (ne-eqb x 10 n)
 
-over? : {P : Type 0} (stage : Stage) → (stage ≡ Over → P) → (isOver stage ≡ false → P) → P
+pub over? : {P : Type 0} (stage : Stage) → (stage ≡ Over → P) → (isOver stage ≡ false → P) → P
 over? SettingsNames f g = g refl
 over? Settings f g = g refl
 over? ChangeNames f g = g refl
 over? Changes f g = g refl
 over? Over f g = f refl
 
-driven-over : (c : Console) (line : List ℕ) (words : Lent) (x : ℕ) (more : List ℕ) → c .stage ≡ Over
+pub driven-over : (c : Console) (line : List ℕ) (words : Lent) (x : ℕ) (more : List ℕ) → c .stage ≡ Over
     → driven c line words (x ∷ more) ≡ finish c line words
 unfolding driven
 driven-over c line words x more e = rw e
 
-driven-more : (c : Console) (line : List ℕ) (words : Lent) (x : ℕ) (more : List ℕ) → isOver (c .stage) ≡ false
+pub driven-more : (c : Console) (line : List ℕ) (words : Lent) (x : ℕ) (more : List ℕ) → isOver (c .stage) ≡ false
     → driven c line words (x ∷ more)
     ≡ stepBytes (fed c line words x) ++ driven (fed c line words x .step .console) (fed c line words x .line) (fed c line words x .lent) more
 unfolding driven
 driven-more c line words x more e = rw e
 
-driven-none : (c : Console) (line : List ℕ) (words : Lent) → driven c line words [] ≡ finish c line words
+pub driven-none : (c : Console) (line : List ℕ) (words : Lent) → driven c line words [] ≡ finish c line words
 unfolding driven
 driven-none c line words = refl
 

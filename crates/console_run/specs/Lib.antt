@@ -3,3 +3,4 @@ pub mod Feed
 pub mod TurnLaws
 pub mod PrintLaws
 pub mod FeedLaws
+pub mod SaidLaws

@@ -9,6 +9,8 @@ use lib.ListN.{length, take}
 use lib.Seq.{take-all}
 use borrow.Author.Tests.{eqb-true}
 use Rattle.base.specs.Branch.{by-test, and-true, and-is, eqb-same, lt?}
+use Rattle.layout.specs.declared.settings.Settings.{Settings as Setting}
+use Rattle.layout.specs.Settings.{settingsOf}
 use Rattle.applying.specs.declared.call.Call.{Call}
 use Rattle.applying.specs.declared.call.Call.the-variants as call
 use Rattle.applying.specs.declared.call.Answer.{Answer}
@@ -61,14 +63,14 @@ pub called-is : {store rows list store′ rows′ list′ : List ℕ} {call : Ca
     → Applied store call rows list a store′ rows′ list′ → t ≡ answered done refused time a
     → does t store′ rows′ list′ ≡ called done refused time call (lent store rows list)
 unfolding called
-called-is done refused time p e = rw (e, p .answer, p .store, p .row-words, p .list-words)
+called-is done refused time p e = rw (e, p .answer, p .store, ← (p .buffers))
 
 -- ---- the settings, as they were read
 module _ {read line : SettingsLine} (words : Lent) (e : read ≡ line) where
-  pub settings-values : {b q blocks tags : ℕ} {d : Does} → read ≡ settings.Values b q blocks tags
-      → d ≡ called ChangeNames Over 0 (call.Start b q blocks tags) words → d ≡ settingsDo line words
+  pub settings-values : {b q blocks tags : ℕ} {asked : Setting} {d : Does} → read ≡ settings.Values b q blocks tags → asked ≡ settingsOf b q blocks tags
+      → d ≡ called ChangeNames Over 0 (call.Start asked) words → d ≡ settingsDo line words
   unfolding settingsDo
-  settings-values f g = g ∙ rw (← e, f)
+  settings-values f h g = (rw h at g) ∙ rw (← e, f)
 
   pub settings-bad : {t : Turn} → read ≡ settings.Bad → t ≡ badAt Settings → only t words ≡ settingsDo line words
   unfolding settingsDo

@@ -5,6 +5,7 @@ use crate::turn::Said;
 use crate::turn::Stage;
 use console_text::gather::Fed;
 use console_text::gather::Gather;
+use console_text::gather::LINE_MOST;
 ghost use mathlib.Core.Path.{_≡_};
 ghost use Rattle.console_run.specs.Console.{lent};
 ghost use Rattle.console_run.specs.Feed.{stepped, begun, nextNumber, taken, fed, lastTaken};
@@ -23,11 +24,14 @@ pub struct Step {
     pub number: u64,
 }
 
-// Lines are counted up to the largest u64: no input has as many.
+// Lines and reads are counted up to the largest u64: no input has as many.
+pub const COUNT_MOST: u64 = 18446744073709551615;
+
+// The number after this one.
 pub fn next_number(number: u64) -> u64
     ensures { λ r. ⌜ r ≡ nextNumber number ⌝ }
 {
-    if number < 18446744073709551615 {
+    if number < COUNT_MOST {
         return number + 1;
     }
     number
@@ -47,8 +51,15 @@ impl Console {
     }
 
     // The line that was gathered is complete.
-    fn take(self, line: &[u8; 80], store: &mut [u32], rows: &mut [u32], list: &mut [u32]) -> Step
-        ensures { λ r. ⌜ stepped r (now (line .entry)) (now (store .exit)) (now (rows .exit)) (now (list .exit)) ≡ taken self (now (line .entry)) (lent (now (store .entry)) (now (rows .entry)) (now (list .entry))) ⌝ }
+    fn take(
+        self,
+        line: &[u8; LINE_MOST],
+        store: &mut [u32],
+        rows: &mut [u32],
+        list: &mut [u32],
+    ) -> Step
+        ensures { λ r. ⌜ stepped r (now (line .entry)) (now (store .exit)) (now (rows .exit)) (now (list .exit))
+            ≡ taken self (now (line .entry)) (lent (now (store .entry)) (now (rows .entry)) (now (list .entry))) ⌝ }
     {
         let stage = self.stage;
         let gather = self.gather;
@@ -72,12 +83,13 @@ impl Console {
     pub fn feed(
         self,
         byte: u8,
-        line: &mut [u8; 80],
+        line: &mut [u8; LINE_MOST],
         store: &mut [u32],
         rows: &mut [u32],
         list: &mut [u32],
     ) -> Step
-        ensures { λ r. ⌜ stepped r (now (line .exit)) (now (store .exit)) (now (rows .exit)) (now (list .exit)) ≡ fed self (now (line .entry)) (lent (now (store .entry)) (now (rows .entry)) (now (list .entry))) byte ⌝ }
+        ensures { λ r. ⌜ stepped r (now (line .exit)) (now (store .exit)) (now (rows .exit)) (now (list .exit))
+            ≡ fed self (now (line .entry)) (lent (now (store .entry)) (now (rows .entry)) (now (list .entry))) byte ⌝ }
     {
         let stage = self.stage;
         let gather = self.gather;
@@ -99,12 +111,13 @@ impl Console {
     // At the end of the input: the last line, if there is one that lacks its newline.
     pub fn last(
         self,
-        line: &[u8; 80],
+        line: &[u8; LINE_MOST],
         store: &mut [u32],
         rows: &mut [u32],
         list: &mut [u32],
     ) -> Step
-        ensures { λ r. ⌜ stepped r (now (line .entry)) (now (store .exit)) (now (rows .exit)) (now (list .exit)) ≡ lastTaken self (now (line .entry)) (lent (now (store .entry)) (now (rows .entry)) (now (list .entry))) ⌝ }
+        ensures { λ r. ⌜ stepped r (now (line .entry)) (now (store .exit)) (now (rows .exit)) (now (list .exit))
+            ≡ lastTaken self (now (line .entry)) (lent (now (store .entry)) (now (rows .entry)) (now (list .entry))) ⌝ }
     {
         let gather = self.gather;
         if gather.left_over() {

@@ -2,6 +2,7 @@
 use crate::turn::Said;
 use crate::turn::Stage;
 use console_text::print;
+pub use layout::ROW_LEN;
 ghost use mathlib.Core.Path.{_≡_};
 ghost use lib.ListN.{getD};
 ghost use mathlib.Core.List.{[]};
@@ -51,7 +52,7 @@ fn put_slice(out: &mut [u8], time: u32, count: u32, blocks: u32, rows: &[u32], i
     if count as u64 <= i {
         return print::put_sum(out, time, count, blocks);
     }
-    let at = 2 * i as usize;
+    let at = ROW_LEN * i as usize;
     let tag = word(rows, at);
     let reading = word(rows, at + 1);
     print::put_row(out, time, tag, reading)

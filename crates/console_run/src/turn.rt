@@ -2,9 +2,11 @@
 use applying::Answer;
 use applying::Call;
 use console_text::gather::Gather;
+use console_text::gather::LINE_MOST;
 use console_text::parse;
 use console_text::parse::Line;
 use console_text::parse::SettingsLine;
+use layout::settings::Settings;
 ghost use mathlib.Core.Path.{_≡_};
 ghost use Prim.Native.Nat.{min};
 ghost use lib.ListN.{take};
@@ -118,7 +120,8 @@ fn called(
     rows: &mut [u32],
     list: &mut [u32],
 ) -> Turn
-    ensures { λ r. ⌜ does r (now (store .exit)) (now (rows .exit)) (now (list .exit)) ≡ called done refused time call (lent (now (store .entry)) (now (rows .entry)) (now (list .entry))) ⌝ }
+    ensures { λ r. ⌜ does r (now (store .exit)) (now (rows .exit)) (now (list .exit))
+        ≡ called done refused time call (lent (now (store .entry)) (now (rows .entry)) (now (list .entry))) ⌝ }
 {
     let answer = applying::apply(store, call, rows, list);
     answered(answer, time, done, refused)
@@ -126,11 +129,13 @@ fn called(
 
 // The settings, with which start is called, at time 0.
 fn settings(text: &[u8], store: &mut [u32], rows: &mut [u32], list: &mut [u32]) -> Turn
-    ensures { λ r. ⌜ does r (now (store .exit)) (now (rows .exit)) (now (list .exit)) ≡ settingsDo (settingsLine (now (text .entry))) (lent (now (store .entry)) (now (rows .entry)) (now (list .entry))) ⌝ }
+    ensures { λ r. ⌜ does r (now (store .exit)) (now (rows .exit)) (now (list .exit))
+        ≡ settingsDo (settingsLine (now (text .entry)))
+        (lent (now (store .entry)) (now (rows .entry)) (now (list .entry))) ⌝ }
 {
     match parse::parse_settings(text) {
         SettingsLine::Values(b, q, blocks, tags) => called(
-            Call::Start(b, q, blocks, tags),
+            Call::Start(Settings::asked(b, q, blocks, tags)),
             0,
             Stage::ChangeNames,
             Stage::Over,
@@ -156,7 +161,9 @@ fn asked_of(line: Line) -> Asked
 }
 
 fn change(text: &[u8], store: &mut [u32], rows: &mut [u32], list: &mut [u32]) -> Turn
-    ensures { λ r. ⌜ does r (now (store .exit)) (now (rows .exit)) (now (list .exit)) ≡ changeDo (askedOf (changeLine (now (text .entry)))) (lent (now (store .entry)) (now (rows .entry)) (now (list .entry))) ⌝ }
+    ensures { λ r. ⌜ does r (now (store .exit)) (now (rows .exit)) (now (list .exit))
+        ≡ changeDo (askedOf (changeLine (now (text .entry))))
+        (lent (now (store .entry)) (now (rows .entry)) (now (list .entry))) ⌝ }
 {
     match asked_of(parse::parse_change(text)) {
         Asked::Call(time, call) => called(
@@ -180,7 +187,8 @@ fn take_text(
     rows: &mut [u32],
     list: &mut [u32],
 ) -> Turn
-    ensures { λ r. ⌜ does r (now (store .exit)) (now (rows .exit)) (now (list .exit)) ≡ textDoes stage (now (text .entry)) (lent (now (store .entry)) (now (rows .entry)) (now (list .entry))) ⌝ }
+    ensures { λ r. ⌜ does r (now (store .exit)) (now (rows .exit)) (now (list .exit))
+        ≡ textDoes stage (now (text .entry)) (lent (now (store .entry)) (now (rows .entry)) (now (list .entry))) ⌝ }
 {
     match stage {
         Stage::SettingsNames => settings_names(text),
@@ -206,7 +214,9 @@ fn take_start(
     rows: &mut [u32],
     list: &mut [u32],
 ) -> Turn
-    ensures { λ r. ⌜ does r (now (store .exit)) (now (rows .exit)) (now (list .exit)) ≡ textDoes stage (take len (now (line .entry))) (lent (now (store .entry)) (now (rows .entry)) (now (list .entry))) ⌝ }
+    ensures { λ r. ⌜ does r (now (store .exit)) (now (rows .exit)) (now (list .exit))
+        ≡ textDoes stage (take len (now (line .entry)))
+        (lent (now (store .entry)) (now (rows .entry)) (now (list .entry))) ⌝ }
 {
     let end = least(len, line.len());
     take_text(stage, &line[..end], store, rows, list)
@@ -216,12 +226,14 @@ fn take_start(
 pub fn take_line(
     stage: Stage,
     gather: Gather,
-    line: &[u8; 80],
+    line: &[u8; LINE_MOST],
     store: &mut [u32],
     rows: &mut [u32],
     list: &mut [u32],
 ) -> Turn
-    ensures { λ r. ⌜ does r (now (store .exit)) (now (rows .exit)) (now (list .exit)) ≡ lineDoes stage (lineText gather (now (line .entry))) (lent (now (store .entry)) (now (rows .entry)) (now (list .entry))) ⌝ }
+    ensures { λ r. ⌜ does r (now (store .exit)) (now (rows .exit)) (now (list .exit))
+        ≡ lineDoes stage (lineText gather (now (line .entry)))
+        (lent (now (store .entry)) (now (rows .entry)) (now (list .entry))) ⌝ }
 {
     if gather.long {
         return bad_at(stage);

@@ -31,7 +31,7 @@ impl Gather {
     }
 
     // The next byte.
-    pub fn feed(self, line: &mut [u8; 80], byte: u8) -> Fed
+    pub fn feed(self, line: &mut [u8; LINE_MOST], byte: u8) -> Fed
         ensures { λ r. ⌜ Feeds self (now (line .entry)) byte r (now (line .exit)) ⌝ }
     {
         if byte == b'\n' {

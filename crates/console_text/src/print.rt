@@ -8,13 +8,16 @@ ghost use mathlib.Core.Path.{_≡_};
 ghost use Prim.Native.Nat.{_+_, _≤_};
 ghost use lib.ListN.{length};
 ghost use Rattle.console_text.specs.Reading.{tenthsOf};
-ghost use Rattle.console_text.specs.Output.{outputNames, rowLine, sumLine, noLine, badLine, Printed};
+ghost use Rattle.console_text.specs.Decimal.{decimal};
+ghost use Rattle.console_text.specs.Output.{outputNames, line, rowLine, sumLine, noLine, badLine, Printed};
 ghost use Rattle.console_text.specs.OutputLaws.{PutSign, PutKn, Started};
 
 pub const LINE_ROOM: usize = 64;
 
-// The least stored word of a reading below zero.
+// The least stored word of a reading below zero, and one more than the largest.
 const LEAST_BELOW: u32 = 2147483648;
+
+const WORDS: u64 = 4294967296;
 
 // "time,kind,first,second"
 pub fn put_names(out: &mut [u8]) -> usize
@@ -42,35 +45,33 @@ pub fn put_row(out: &mut [u8], time: u32, tag: u32, reading: u32) -> usize
 pub fn put_sum(out: &mut [u8], time: u32, rows: u32, blocks: u32) -> usize
     ensures { λ r. ⌜ Printed (sumLine time rows blocks) (now (out .entry)) r (now (out .exit)) ⌝ }
 {
-    if out.len() < LINE_ROOM {
-        return 0;
-    }
-    let start = put_start(out, time, b"sum", rows as u64);
-    let end = put_decimal(out, start, blocks as u64);
-    put_byte(out, end, b'\n')
+    put_numbers(out, time, b"sum", rows as u64, blocks as u64)
 }
 
 // T,no,REFUSAL,0
 pub fn put_no(out: &mut [u8], time: u32, refusal: u32) -> usize
     ensures { λ r. ⌜ Printed (noLine time refusal) (now (out .entry)) r (now (out .exit)) ⌝ }
 {
-    if out.len() < LINE_ROOM {
-        return 0;
-    }
-    let start = put_start(out, time, b"no", refusal as u64);
-    let end = put_decimal(out, start, 0);
-    put_byte(out, end, b'\n')
+    put_numbers(out, time, b"no", refusal as u64, 0)
 }
 
 // 0,bad,LINE,0
 pub fn put_bad(out: &mut [u8], line: u64) -> usize
     ensures { λ r. ⌜ Printed (badLine line) (now (out .entry)) r (now (out .exit)) ⌝ }
 {
+    put_numbers(out, 0, b"bad", line, 0)
+}
+
+// A line whose second field is a number.
+fn put_numbers(out: &mut [u8], time: u32, kind: &[u8], first: u64, second: u64) -> usize
+    requires { ⌜ length (now kind) ≤ 3 ⌝ }
+    ensures { λ r. ⌜ Printed (line time (now (kind .entry)) first (decimal second)) (now (out .entry)) r (now (out .exit)) ⌝ }
+{
     if out.len() < LINE_ROOM {
         return 0;
     }
-    let start = put_start(out, 0, b"bad", line);
-    let end = put_decimal(out, start, 0);
+    let start = put_start(out, time, kind, first);
+    let end = put_decimal(out, start, second);
     put_byte(out, end, b'\n')
 }
 
@@ -106,7 +107,7 @@ fn tenths_of(reading: u32) -> u64
     if reading < LEAST_BELOW {
         return (reading as u64 + 5) / 10;
     }
-    (4294967296 - reading as u64 + 5) / 10
+    (WORDS - reading as u64 + 5) / 10
 }
 
 // A minus, only before tenths that are not 0.

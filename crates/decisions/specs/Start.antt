@@ -10,9 +10,6 @@ use Rattle.calls.specs.Refusals.{Test, refusal}
 use Rattle.decisions.specs.declared.start.StartVerdict.{StartVerdict}
 use Rattle.decisions.specs.declared.start.StartVerdict.the-variants.{Go, Refused}
 
-abbrev pub settingsOf : ℕ → ℕ → ℕ → ℕ → Settings
-settingsOf block useful blocks tags = record { block = block; useful = useful; blocks = blocks; tags = tags }
-
 unfoldable pub startVerdict : List Test → Settings → StartVerdict
 startVerdict l s = cond (eqb (refusal l) 0) (Go s) (Refused (refusal l))
 

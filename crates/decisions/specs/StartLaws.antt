@@ -12,12 +12,12 @@ use Rattle.base.specs.Sums.{nil, cons}
 use Rattle.layout.specs.declared.settings.Settings.{Settings}
 use Rattle.layout.specs.declared.settings.SettingsAnswer.the-variants as answer
 use Rattle.layout.specs.Sizes.{layoutLen}
-use Rattle.layout.specs.Settings.{inLimits, settingsAnswer, Within}
+use Rattle.layout.specs.Settings.{settingsOf, inLimits, settingsAnswer, Within}
 use Rattle.layout.specs.SettingsLaws.{limits-within}
 use Rattle.layout.specs.OnWords.{fits-held}
 use Rattle.calls.specs.Refusals.{Test, refusal, startTests}
 use Rattle.decisions.specs.declared.start.StartVerdict.the-variants.{Go, Refused}
-use Rattle.decisions.specs.Start.{settingsOf, startVerdict, startOwn}
+use Rattle.decisions.specs.Start.{startVerdict, startOwn}
 use Rattle.decisions.specs.Ready.{ReadyStart}
 use Rattle.decisions.specs.TestLaws.{First, NoneApplies, numbers, none-applies}
 

@@ -1,29 +1,15 @@
 // What a change will do, by the words that it finds: which blocks close, how many records come in, whether a block opens.
 use layout::address;
-use layout::address::Address;
-use layout::fields;
 use layout::head::Head;
-use layout::settings::Settings;
 use layout::standing::Standing;
 ghost use mathlib.Core.Path.{_≡_};
 ghost use Prim.Native.Nat.{_+_, _-_, _≤_};
 ghost use lib.Dec.{eqb};
 ghost use Rattle.layout.specs.Address.{Numbered};
 ghost use Rattle.layout.specs.HeadLaws.{SoundHead};
-ghost use Rattle.calls.specs.Refusals.{opens, takenUp, bitsOf, remaining, closes, copies};
+ghost use Rattle.calls.specs.Refusals.{opens, takenUp, remaining, closes, copies};
 ghost use Rattle.decisions.specs.Ready.{wordsOf, Ready};
 ghost use Rattle.decisions.specs.EffectLaws.{fewWhenFull};
-
-// The standing bits of block n.
-pub(crate) fn bits_of(store: &[u32], h: Head, n: u32) -> Standing
-    requires { ⌜ Ready (now store) h ⌝ }
-    requires { ⌜ Numbered (h .settings) n ⌝ }
-    ensures { λ r. ⌜ r ≡ bitsOf h (wordsOf h (now (store .entry))) n ⌝ }
-{
-    let low = address::read(store, h.settings, Address::Bits(n, fields::LOW));
-    let high = address::read(store, h.settings, Address::Bits(n, fields::HIGH));
-    Standing { low, high }
-}
 
 // How many records of block n stand once one has ended.
 fn remaining(store: &[u32], h: Head, n: u32) -> u32
@@ -31,7 +17,7 @@ fn remaining(store: &[u32], h: Head, n: u32) -> u32
     requires { ⌜ Numbered (h .settings) n ⌝ }
     ensures { λ r. ⌜ r ≡ remaining h (wordsOf h (now (store .entry))) n ⌝ }
 {
-    let standing = bits_of(store, h, n).count();
+    let standing = address::standing(store, h.settings, n).count();
     if standing == 0 {
         return 0;
     }

@@ -4,6 +4,7 @@ use crate::sound;
 use layout::address;
 use layout::address::Address;
 use layout::head::Head;
+use layout::place;
 use layout::refusal;
 ghost use mathlib.Core.Path.{_≡_};
 ghost use Prim.Native.Nat.{_≤_};
@@ -25,7 +26,7 @@ fn opening_refusal(h: Head) -> u32
     ensures { λ r. ⌜ First (outTest h) r ⌝ }
 {
     if effect::all_opened(h) {
-        return refusal::BLOCKS_OUT;
+        return refusal::OUT_OF_BLOCKS;
     }
     0
 }
@@ -39,7 +40,7 @@ pub(crate) fn set_refusal(store: &[u32], h: Head, tag: u32) -> u32
         return refusal::TAG;
     }
     if address::read(store, h.settings, Address::Dir(tag)) != 0 {
-        return refusal::STANDS;
+        return refusal::STANDING;
     }
     if !effect::opens(h, 1) {
         return 0;
@@ -60,7 +61,7 @@ fn ending_refusal(store: &[u32], h: Head, tag: u32, p: u32, more: u32) -> u32
     if sound::place_is_bad(store, h, tag, p) {
         return refusal::UNSOUND;
     }
-    let n = places::block_of(h.settings, p);
+    let n = place::block_of(h.settings, p);
     if sound::closing_is_bad(store, h, n) {
         return refusal::UNSOUND;
     }
@@ -85,7 +86,7 @@ pub(crate) fn clear_refusal(store: &[u32], h: Head, tag: u32, more: u32) -> u32
     }
     let p = address::read(store, h.settings, Address::Dir(tag));
     if p == 0 {
-        return refusal::ABSENT;
+        return refusal::NOT_STANDING;
     }
     ending_refusal(store, h, tag, p, more)
 }

@@ -4,6 +4,7 @@ use layout::address;
 use layout::address::Address;
 use layout::fields;
 use layout::head::Head;
+use layout::place;
 use layout::standing::Standing;
 ghost use mathlib.Core.Path.{_≡_};
 ghost use mathlib.Core.Bool.{_&&_};
@@ -24,12 +25,12 @@ pub(crate) fn place_is_bad(store: &[u32], h: Head, tag: u32, p: u32) -> bool
     if h.placed() < p {
         return true;
     }
-    let n = places::block_of(h.settings, p);
-    let k = places::slot_of(h.settings, p);
+    let n = place::block_of(h.settings, p);
+    let k = place::slot_of(h.settings, p);
     if address::read(store, h.settings, Address::Slot(n, k, fields::TAG)) != tag {
         return true;
     }
-    !effect::bits_of(store, h, n).has(k)
+    !address::standing(store, h.settings, n).has(k)
 }
 
 // An up not below its block; a right, unless the block is the acceptor, not above it and up to N.
@@ -69,7 +70,7 @@ fn slots_are_bad(store: &[u32], h: Head, n: u32) -> bool
     requires { ⌜ Numbered (h .settings) n ⌝ }
     ensures { λ r. ⌜ r ≡ anyOf (badSlot h (wordsOf h (now (store .entry))) n) (slots (bitsOf h (wordsOf h (now (store .entry))) n)) ⌝ }
 {
-    let mut left = effect::bits_of(store, h, n);
+    let mut left = address::standing(store, h.settings, n);
     while !left.is_empty() {
         if slot_is_bad(store, h, n, left.first()) {
             return true;
@@ -111,7 +112,7 @@ pub(crate) fn unsound_for_set(store: &[u32], h: Head) -> bool
     if h.cursor.opened == 0 {
         return false;
     }
-    let b = effect::bits_of(store, h, h.cursor.opened);
+    let b = address::standing(store, h.settings, h.cursor.opened);
     acceptor_is_bad(store, h, b)
 }
 
@@ -122,9 +123,9 @@ fn after_clear(store: &[u32], h: Head, tag: u32, p: u32) -> Standing
     requires { ⌜ InPlace h p ⌝ }
     ensures { λ r. ⌜ r ≡ afterClear h (wordsOf h (now (store .entry))) tag ⌝ }
 {
-    let b = effect::bits_of(store, h, h.cursor.opened);
-    if places::block_of(h.settings, p) == h.cursor.opened {
-        return b.without(places::slot_of(h.settings, p));
+    let b = address::standing(store, h.settings, h.cursor.opened);
+    if place::block_of(h.settings, p) == h.cursor.opened {
+        return b.without(place::slot_of(h.settings, p));
     }
     b
 }

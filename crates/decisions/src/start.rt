@@ -4,7 +4,7 @@ use layout::settings::Settings;
 use layout::settings::SettingsAnswer;
 ghost use mathlib.Core.Path.{_≡_};
 ghost use Rattle.calls.specs.Refusals.{startTests};
-ghost use Rattle.decisions.specs.Start.{settingsOf, startVerdict};
+ghost use Rattle.decisions.specs.Start.{startVerdict};
 
 // A start that may go on with these settings, or its refusal.
 pub enum StartVerdict {
@@ -13,10 +13,10 @@ pub enum StartVerdict {
 }
 
 // A start: refusals 1, 2 and 4. The head that the store held before does not matter.
-pub fn decide_start(store: &[u32], block: u32, useful: u32, blocks: u32, tags: u32) -> StartVerdict
-    ensures { λ r. ⌜ r ≡ startVerdict (startTests (settingsOf block useful blocks tags) (now (store .entry))) (settingsOf block useful blocks tags) ⌝ }
+pub fn decide_start(store: &[u32], asked: Settings) -> StartVerdict
+    ensures { λ r. ⌜ r ≡ startVerdict (startTests asked (now (store .entry))) asked ⌝ }
 {
-    let answer = Settings::new(block, useful, blocks, tags);
+    let answer = Settings::new(asked.block, asked.useful, asked.blocks, asked.tags);
     match answer {
         SettingsAnswer::Refused(n) => StartVerdict::Refused(n),
         SettingsAnswer::Fit(s) => {

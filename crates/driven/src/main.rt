@@ -1,6 +1,7 @@
 // The five change calls on document 01's printed changes, its edges P8 to P12, and one example of each refusal that a change knows. Prints each answer
 // with the next head, and the head, the directory and the opened blocks as words.
 use changes::Change;
+use layout::settings::Settings;
 
 // The store of the printed settings: b = 4, q = 2, 8 blocks, 16 tags.
 const WORDS: usize = 4592;
@@ -113,7 +114,7 @@ fn advance(store: &mut [u32; WORDS], second: u32) {
 }
 
 fn start(store: &mut [u32; WORDS], block: u32, blocks: u32) {
-    tell(changes::start(store, block, 2, blocks, 16));
+    tell(changes::start(store, Settings::asked(block, 2, blocks, 16)));
 }
 
 fn printed_changes(store: &mut [u32; WORDS]) {
@@ -185,7 +186,7 @@ fn starts(store: &mut [u32; WORDS]) {
     io::write_all(1, b"P12\n");
     start(store, 4, 8);
     let mut short = [9u32; 4591];
-    tell(changes::start(&mut short, 4, 2, 8, 16));
+    tell(changes::start(&mut short, Settings::asked(4, 2, 8, 16)));
 }
 
 // The head of a fresh register on a store that is one word too short for it.
@@ -204,7 +205,7 @@ fn short_stores() {
     let mut short = [0u32; 4591];
     short_of_layout(&mut short);
     let mut tiny = [9u32; 15];
-    tell(changes::start(&mut tiny, 4, 2, 8, 16));
+    tell(changes::start(&mut tiny, Settings::asked(4, 2, 8, 16)));
     tell(changes::set(&mut tiny, 1, 1, 1));
 }
 

@@ -1,16 +1,17 @@
-// After an accepted change: the store against the book and the log. Each function answers 0, or the number of what does not agree.
+// After an accepted start or change: the store against the book and the log. A function answers 0 where they agree, else the number of what
+// does not, or (head, seconds) the bits that differ.
 use crate::book;
 use crate::log;
+use crate::notes::Notes;
+use crate::notes::Store;
+use crate::notes::get;
+use crate::notes::word;
 use crate::settings;
 use crate::settings::Settings;
-use crate::words;
 use crate::words::OPEN;
-use crate::words::WORDS;
-use crate::words::get;
+use crate::words::bit;
 use crate::words::less;
 use crate::words::product;
-use crate::words::quotient;
-use crate::words::rest;
 use crate::words::sum;
 
 const HEAD: u32 = 4;
@@ -25,119 +26,103 @@ const SLOT: u32 = 8;
 
 const DIRECTORY: u32 = 9;
 
-// Mark and settings.
-fn head_settings(store: &[u32; WORDS], s: Settings) -> u32 {
-    if get(store, 0) != 7001 {
-        return HEAD;
-    }
-    if get(store, 1) != s.block {
-        return HEAD;
-    }
-    if get(store, 2) != s.useful {
-        return HEAD;
-    }
-    if get(store, 3) != s.blocks {
-        return HEAD;
-    }
-    if get(store, 4) != s.tags {
-        return HEAD;
-    }
-    0
+// Mark and settings, N, the clock and the six zeros: all that differs.
+fn head(store: &Store, notes: &Notes, s: Settings) -> u32 {
+    (word(store, 0) ^ 7001)
+        | head_settings(store, s)
+        | (word(store, 5) ^ get(notes, book::BLOCKS))
+        | (word(store, 6) ^ get(notes, log::CLOCK))
+        | zeros(store)
 }
 
-// N, the clock and the six zeros.
-fn head_numbers(store: &[u32; WORDS], book: &[u32; WORDS], log: &[u32; WORDS]) -> u32 {
-    if get(store, 5) != book::blocks(book) {
-        return HEAD;
-    }
-    if get(store, 6) != get(log, log::CLOCK) {
-        return HEAD;
-    }
-    if words::all_zero(store, 10, 16) {
-        0
-    } else {
-        HEAD
-    }
+fn head_settings(store: &Store, s: Settings) -> u32 {
+    (word(store, 1) ^ s.block)
+        | (word(store, 2) ^ s.useful)
+        | (word(store, 3) ^ s.blocks)
+        | (word(store, 4) ^ s.tags)
+}
+
+fn zeros(store: &Store) -> u32 {
+    word(store, 10)
+        | word(store, 11)
+        | word(store, 12)
+        | word(store, 13)
+        | word(store, 14)
+        | word(store, 15)
 }
 
 // "records placed, 0 for N = 0 and else (N − 1) × b + fill"
-fn store_placed(store: &[u32; WORDS], s: Settings) -> u32 {
-    let n = get(store, 5);
+fn store_placed(store: &Store, s: Settings) -> u32 {
+    let n = word(store, 5);
     if n == 0 {
         return 0;
     }
-    sum(product(less(n, 1), s.block), get(store, 7))
+    sum(product(less(n, 1), s.block), word(store, 7))
 }
 
 // Records placed are the book's, and records placed × (b − q + 1) ≤ b × accepted sets and new readings.
-fn placed(store: &[u32; WORDS], s: Settings, book: &[u32; WORDS], log: &[u32; WORDS]) -> u32 {
+fn placed(store: &Store, notes: &Notes, s: Settings) -> u32 {
     let count = store_placed(store, s);
-    if count != book::placed(book) {
+    if count != get(notes, book::PLACED) {
         return PLACED;
     }
     let share = sum(less(s.block, s.useful), 1);
-    if product(s.block, get(log, log::SETS)) < product(count, share) {
+    if product(s.block, get(notes, log::SETS)) < product(count, share) {
         return BOUND;
     }
     0
 }
 
-// A slot's tag and standing bit are the book's, and the directory has the place of a record that stands.
-fn slot(store: &[u32; WORDS], s: Settings, book: &[u32; WORDS], n: u32, k: u32) -> u32 {
-    let low = get(store, settings::block_word(s, n, 6));
-    let high = get(store, settings::block_word(s, n, 7));
-    let stands = book::stands(book, n, k);
-    if words::bit(low, high, k) != stands {
-        return SLOT;
-    }
-    if k < book::records(book, n) {
-        if get(store, settings::slot_word(s, n, k, 0)) != book::tag(book, n, k) {
-            return SLOT;
-        }
-    }
-    if stands == 1 {
-        return standing_slot(store, s, book, n, k);
-    }
-    0
+// A block's opened and closed word against the book's seconds: all that differs.
+fn seconds(store: &Store, notes: &Notes, s: Settings, n: u32) -> u32 {
+    (word(store, settings::block_word(s, n, 0)) ^ book::word(notes, n, book::OPENED))
+        | (word(store, settings::block_word(s, n, 1)) ^ book::word(notes, n, book::CLOSED))
 }
 
-fn standing_slot(store: &[u32; WORDS], s: Settings, book: &[u32; WORDS], n: u32, k: u32) -> u32 {
-    if get(store, settings::slot_word(s, n, k, 3)) != OPEN {
+// The record at a place that stands: it has no end, and the directory has its place.
+fn standing_slot(store: &Store, notes: &Notes, s: Settings, place: u32) -> u32 {
+    let n = book::block_of(notes, place);
+    let k = book::slot_of(notes, place);
+    if word(store, settings::slot_word(s, n, k, 3)) != OPEN {
         return SLOT;
     }
-    let tag = book::tag(book, n, k);
-    if get(store, sum(settings::DIRECTORY, tag)) != settings::place(s, n, k) {
+    if word(store, sum(settings::DIRECTORY, book::tag(notes, n, k))) != place {
         return DIRECTORY;
     }
     0
 }
 
-fn slots(store: &[u32; WORDS], s: Settings, book: &[u32; WORDS], n: u32) -> u32 {
-    let last = s.block;
-    for k in 0..last {
-        let found = slot(store, s, book, n, k);
-        if found != 0 {
-            return found;
+// The slot at a place: its tag and its standing bit are the book's; with the first slot of a block, the block's seconds.
+fn slot(store: &Store, notes: &Notes, s: Settings, place: u32) -> u32 {
+    let n = book::block_of(notes, place);
+    let k = book::slot_of(notes, place);
+    if k == 0 {
+        if seconds(store, notes, s, n) != 0 {
+            return SECONDS;
         }
+    }
+    let low = word(store, settings::block_word(s, n, 6));
+    let high = word(store, settings::block_word(s, n, 7));
+    let stands = book::stands(notes, n, k);
+    if bit(low, high, k) != stands {
+        return SLOT;
+    }
+    if book::has(notes, n, k) {
+        if word(store, settings::slot_word(s, n, k, 0)) != book::tag(notes, n, k) {
+            return SLOT;
+        }
+    }
+    if stands == 1 {
+        return standing_slot(store, notes, s, place);
     }
     0
 }
 
-// A block's opened and closed word are the book's seconds, and its slots the book's records.
-fn block(store: &[u32; WORDS], s: Settings, book: &[u32; WORDS], n: u32) -> u32 {
-    if get(store, settings::block_word(s, n, 0)) != book::opened(book, n) {
-        return SECONDS;
-    }
-    if get(store, settings::block_word(s, n, 1)) != book::closed(book, n) {
-        return SECONDS;
-    }
-    slots(store, s, book, n)
-}
-
-fn blocks(store: &[u32; WORDS], s: Settings, book: &[u32; WORDS]) -> u32 {
-    let last = book::blocks(book);
+// Every slot of every block of the book.
+fn slots(store: &Store, notes: &Notes, s: Settings) -> u32 {
+    let last = product(get(notes, book::BLOCKS), s.block);
     for i in 0..last {
-        let found = block(store, s, book, sum(i, 1));
+        let found = slot(store, notes, s, sum(i, 1));
         if found != 0 {
             return found;
         }
@@ -146,52 +131,32 @@ fn blocks(store: &[u32; WORDS], s: Settings, book: &[u32; WORDS]) -> u32 {
 }
 
 // A directory word is 0 or the place of a record of the book that stands and has this tag.
-fn entry(store: &[u32; WORDS], s: Settings, book: &[u32; WORDS], tag: u32) -> u32 {
-    let place = get(store, sum(settings::DIRECTORY, tag));
-    if place == 0 {
-        return 0;
-    }
-    let before = less(place, 1);
-    let n = sum(quotient(before, s.block), 1);
-    let k = rest(before, s.block);
-    if book::stands(book, n, k) != 1 {
-        return DIRECTORY;
-    }
-    if book::tag(book, n, k) != tag {
-        return DIRECTORY;
-    }
-    0
-}
-
-fn directory(store: &[u32; WORDS], s: Settings, book: &[u32; WORDS]) -> u32 {
+fn directory(store: &Store, notes: &Notes, s: Settings) -> u32 {
     let last = s.tags;
     for tag in 0..last {
-        let found = entry(store, s, book, tag);
-        if found != 0 {
-            return found;
+        let place = word(store, sum(settings::DIRECTORY, tag));
+        if place != 0 {
+            if !book::has_at(notes, place, tag) {
+                return DIRECTORY;
+            }
         }
     }
     0
 }
 
 // The whole store against book and log.
-pub fn store_agrees(store: &[u32; WORDS], book: &[u32; WORDS], log: &[u32; WORDS]) -> u32 {
-    let s = log::current(log);
-    let mut found = head_settings(store, s);
+pub fn store_agrees(store: &Store, notes: &Notes) -> u32 {
+    let s = log::current(notes);
+    if head(store, notes, s) != 0 {
+        return HEAD;
+    }
+    let mut found = placed(store, notes, s);
     if found != 0 {
         return found;
     }
-    found = head_numbers(store, book, log);
+    found = slots(store, notes, s);
     if found != 0 {
         return found;
     }
-    found = placed(store, s, book, log);
-    if found != 0 {
-        return found;
-    }
-    found = blocks(store, s, book);
-    if found != 0 {
-        return found;
-    }
-    directory(store, s, book)
+    directory(store, notes, s)
 }

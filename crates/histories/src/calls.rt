@@ -1,54 +1,94 @@
-// The register's calls on the first words of an array: a part of a given length is lent.
-use crate::book::ADVANCE;
-use crate::book::CLEAR;
-use crate::book::SET;
+// The register's calls, each on the first words of the store: as many as are asked for, or all that there are. What a look-back leaves goes
+// into the notes.
+use crate::asked::CLEAR;
+use crate::asked::Change;
+use crate::asked::LookBack;
+use crate::asked::SET;
+use crate::asked::UPDATE;
+use crate::notes::ANSWER;
+use crate::notes::LIST;
+use crate::notes::Notes;
+use crate::notes::ROWS;
+use crate::notes::Store;
+use crate::notes::put_at;
 use crate::settings::Settings;
-use crate::words::WORDS;
-use crate::words::wide;
+use crate::words::MARK;
+use crate::words::mark;
+use crate::words::sum;
+ghost use Prim.Native.Nat.{_≤_};
 
-// What no call answers: the program itself asked for more than it has.
-const NOT_ASKED: u32 = 99;
-
-fn start_on(
-    store: &mut [u32],
-    length: usize,
-    block: u32,
-    useful: u32,
-    blocks: u32,
-    tags: u32,
-) -> u32 {
-    if store.len() < length {
-        return NOT_ASKED;
-    }
-    register::register_start(&mut store[..length], block, useful, blocks, tags)
+fn wide(x: u32) -> usize {
+    x as usize
 }
 
-fn set_on(store: &mut [u32], length: usize, second: u32, tag: u32, reading: u32) -> u32 {
-    if store.len() < length {
-        return NOT_ASKED;
-    }
-    register::register_set(&mut store[..length], second, tag, reading)
+fn least(x: usize, y: usize) -> usize
+    ensures { λ r. ⌜ r ≤ y ⌝ }
+{
+    if x <= y { x } else { y }
 }
 
-fn clear_on(store: &mut [u32], length: usize, second: u32, tag: u32) -> u32 {
-    if store.len() < length {
-        return NOT_ASKED;
-    }
-    register::register_clear(&mut store[..length], second, tag)
+fn start_on(store: &mut [u32], length: usize, s: Settings) -> u32 {
+    let end = least(length, store.len());
+    register::register_start(&mut store[0..end], s.block, s.useful, s.blocks, s.tags)
 }
 
-fn update_on(store: &mut [u32], length: usize, second: u32, tag: u32, reading: u32) -> u32 {
-    if store.len() < length {
-        return NOT_ASKED;
-    }
-    register::register_update(&mut store[..length], second, tag, reading)
+pub fn start(store: &mut Store, length: u32, s: Settings) -> u32 {
+    start_on(store, wide(length), s)
 }
 
-fn advance_on(store: &mut [u32], length: usize, second: u32) -> u32 {
-    if store.len() < length {
-        return NOT_ASKED;
+// The lent words are cut already.
+fn change_lent(lent: &mut [u32], c: Change) -> u32 {
+    if c.kind == SET {
+        return register::register_set(lent, c.second, c.tag, c.reading);
     }
-    register::register_advance(&mut store[..length], second)
+    if c.kind == CLEAR {
+        return register::register_clear(lent, c.second, c.tag);
+    }
+    if c.kind == UPDATE {
+        return register::register_update(lent, c.second, c.tag, c.reading);
+    }
+    register::register_advance(lent, c.second)
+}
+
+fn change_on(store: &mut [u32], length: usize, c: Change) -> u32 {
+    let end = least(length, store.len());
+    change_lent(&mut store[0..end], c)
+}
+
+pub fn change(store: &mut Store, c: Change) -> u32 {
+    change_on(store, wide(c.length), c)
+}
+
+// A buffer to lend from: longer than any that a look-back of ours gets.
+type Buffer = [u32; 640];
+
+// Words of a buffer beyond the lent ones that are noted too.
+pub const SPARE: u32 = 8;
+
+// A buffer of marks.
+fn marked() -> Buffer {
+    let mut buffer = [0u32; 640];
+    for i in 0..640 {
+        buffer[i as usize] = mark(i);
+    }
+    buffer
+}
+
+// Notes the lent words of a buffer, and some more.
+fn note_buffer(notes: &mut Notes, part: u32, buffer: &Buffer, lent: u32) {
+    let end = sum(lent, SPARE);
+    for i in 0..end {
+        let at = wide(i);
+        if at < 640 {
+            put_at(notes, part, i, buffer[at]);
+        }
+    }
+}
+
+fn note_answer(notes: &mut Notes, answer: &[u32; 6]) {
+    for i in 0..6 {
+        put_at(notes, ANSWER, i, answer[i as usize]);
+    }
 }
 
 fn look_back_on(
@@ -61,68 +101,35 @@ fn look_back_on(
     list_words: usize,
     answer: &mut [u32; 6],
 ) -> u32 {
-    if store.len() < length {
-        return NOT_ASKED;
-    }
-    if rows.len() < row_words {
-        return NOT_ASKED;
-    }
-    if list.len() < list_words {
-        return NOT_ASKED;
-    }
+    let store_end = least(length, store.len());
+    let row_end = least(row_words, rows.len());
+    let list_end = least(list_words, list.len());
     register::register_look_back(
-        &store[..length],
+        &store[0..store_end],
         second,
-        &mut rows[..row_words],
-        &mut list[..list_words],
+        &mut rows[0..row_end],
+        &mut list[0..list_end],
         answer,
     )
 }
 
-pub fn start(store: &mut [u32; WORDS], length: u32, s: Settings) -> u32 {
-    start_on(store, wide(length), s.block, s.useful, s.blocks, s.tags)
-}
-
-// A set, a clear, a new reading or a clock move.
-pub fn change(
-    store: &mut [u32; WORDS],
-    length: u32,
-    kind: u32,
-    second: u32,
-    tag: u32,
-    reading: u32,
-) -> u32 {
-    let long = wide(length);
-    if kind == SET {
-        return set_on(store, long, second, tag, reading);
-    }
-    if kind == CLEAR {
-        return clear_on(store, long, second, tag);
-    }
-    if kind == ADVANCE {
-        return advance_on(store, long, second);
-    }
-    update_on(store, long, second, tag, reading)
-}
-
-pub fn look_back(
-    store: &[u32; WORDS],
-    length: u32,
-    second: u32,
-    rows: &mut [u32; WORDS],
-    row_words: u32,
-    list: &mut [u32; WORDS],
-    list_words: u32,
-    answer: &mut [u32; 6],
-) -> u32 {
-    look_back_on(
+// A look-back into buffers of marks; its answer's six words are marks too.
+pub fn look_back(store: &Store, notes: &mut Notes, a: LookBack) -> u32 {
+    let mut rows = marked();
+    let mut list = marked();
+    let mut answer = [MARK, MARK + 1, MARK + 2, MARK + 3, MARK + 4, MARK + 5];
+    let got = look_back_on(
         store,
-        wide(length),
-        second,
-        rows,
-        wide(row_words),
-        list,
-        wide(list_words),
-        answer,
-    )
+        wide(a.length),
+        a.second,
+        &mut rows,
+        wide(a.row_words),
+        &mut list,
+        wide(a.list_words),
+        &mut answer,
+    );
+    note_buffer(notes, ROWS, &rows, a.row_words);
+    note_buffer(notes, LIST, &list, a.list_words);
+    note_answer(notes, &answer);
+    got
 }

@@ -1,14 +1,15 @@
 // Random arguments: mostly sensible, sometimes such as a refusal is for.
-use crate::book::SET;
+use crate::asked::Change;
+use crate::asked::LookBack;
 use crate::log;
+use crate::notes::Notes;
+use crate::notes::get;
 use crate::random::below;
 use crate::random::once_in;
 use crate::random::word;
 use crate::settings;
 use crate::settings::Settings;
 use crate::words::OPEN;
-use crate::words::WORDS;
-use crate::words::get;
 use crate::words::less;
 use crate::words::product;
 use crate::words::rest;
@@ -18,66 +19,65 @@ use crate::words::sum;
 const LATE_SECOND: u32 = 4294967200;
 
 // How many words of the store are lent: all that the history has, and now and then too few.
-pub fn draw_length(log: &[u32; WORDS], random: &mut [u64; 1]) -> u32 {
-    let length = get(log, log::LENGTH);
-    let r = below(random, 160);
+pub fn length(notes: &mut Notes) -> u32 {
+    let r = below(notes, 160);
     match r {
         0 => 0,
         1 => 15,
         2 => 16,
-        3 => less(settings::layout(log::current(log)), 1),
-        _ => length,
+        3 => less(log::layout(notes), 1),
+        _ => get(notes, log::LENGTH),
     }
 }
 
-// A second from the clock on, sometimes before it, sometimes OPEN; past the last second it is OPEN too.
-pub fn draw_second(log: &[u32; WORDS], random: &mut [u64; 1]) -> u32 {
-    let clock = get(log, log::CLOCK);
-    if clock == 0 {
-        if get(log, log::LATE) == 1 {
-            return LATE_SECOND;
-        }
-    }
-    let r = below(random, 40);
-    if r == 0 {
-        return OPEN;
-    }
-    if r == 1 {
-        let back = sum(below(random, 5), 1);
-        return less(clock, back);
-    }
-    if r < 20 {
-        return clock;
-    }
-    let on = if r < 36 { 1 } else { below(random, 20) };
-    let second = sum(clock, on);
+// The clock moved on; past the last second it is OPEN.
+fn later(clock: u32, seconds: u32) -> u32 {
+    let second = sum(clock, seconds);
     if second < clock { OPEN } else { second }
 }
 
-// A second to look back at: any up to the clock, often a late one, sometimes one after the clock, sometimes OPEN.
-pub fn draw_past(log: &[u32; WORDS], random: &mut [u64; 1]) -> u32 {
-    let clock = get(log, log::CLOCK);
-    let r = below(random, 24);
-    if r == 0 {
-        return OPEN;
+// A second from the clock on, sometimes before it, sometimes OPEN.
+fn from_clock(notes: &mut Notes, clock: u32) -> u32 {
+    let r = below(notes, 40);
+    match r {
+        0 => OPEN,
+        1 => less(clock, sum(below(notes, 5), 1)),
+        2..=19 => clock,
+        20..=35 => later(clock, 1),
+        _ => later(clock, below(notes, 20)),
     }
-    if r == 1 {
-        return sum(clock, 1);
-    }
-    if r < 5 {
-        return clock;
-    }
-    if r < 12 {
-        return less(clock, below(random, 90));
-    }
-    below(random, sum(clock, 1))
 }
 
-// From a tag on, round the end, the first that stands (wanted 1) or does not (wanted 0); the tag itself if there is none.
-fn next_tag(state: &[u32; WORDS], tags: u32, first: u32, wanted: u32) -> u32 {
+// The second of a change; the first of a late history is late.
+fn second(notes: &mut Notes) -> u32 {
+    let clock = get(notes, log::CLOCK);
+    if clock == 0 {
+        if get(notes, log::LATE) == 1 {
+            return LATE_SECOND;
+        }
+    }
+    from_clock(notes, clock)
+}
+
+// A second to look back at: any up to the clock, often a late one, sometimes one after the clock, sometimes OPEN.
+pub fn past(notes: &mut Notes) -> u32 {
+    let clock = get(notes, log::CLOCK);
+    let r = below(notes, 24);
+    match r {
+        0 => OPEN,
+        1 => sum(clock, 1),
+        2..=4 => clock,
+        5..=11 => less(clock, below(notes, 90)),
+        _ => below(notes, sum(clock, 1)),
+    }
+}
+
+// From a tag on, round the end, the first that fits the kind of change; the tag itself if there is none.
+fn next_tag(notes: &Notes, kind: u32, first: u32) -> u32 {
+    let tags = get(notes, log::TAGS);
     for i in 0..tags {
         let tag = rest(sum(first, i), tags);
-        if get(state, tag) == wanted {
+        if log::fits(notes, kind, tag) {
             return tag;
         }
     }
@@ -85,102 +85,48 @@ fn next_tag(state: &[u32; WORDS], tags: u32, first: u32, wanted: u32) -> u32 {
 }
 
 // A tag that fits the kind of change, for three calls in four; sometimes none of the register's.
-pub fn draw_tag(
-    kind: u32,
-    log: &[u32; WORDS],
-    state: &mut [u32; WORDS],
-    random: &mut [u64; 1],
-) -> u32 {
-    let tags = get(log, log::TAGS);
-    if once_in(random, 30) {
-        return sum(tags, below(random, 3));
+fn tag(notes: &mut Notes, kind: u32) -> u32 {
+    let tags = get(notes, log::TAGS);
+    if once_in(notes, 30) {
+        return sum(tags, below(notes, 3));
     }
-    let first = below(random, tags);
-    if once_in(random, 4) {
+    let first = below(notes, tags);
+    if once_in(notes, 4) {
         return first;
     }
-    log::state_at(log, get(log, log::CLOCK), state);
-    if kind == SET {
-        next_tag(state, tags, first, 0)
-    } else {
-        next_tag(state, tags, first, 1)
-    }
+    log::state_at(notes, get(notes, log::CLOCK));
+    next_tag(notes, kind, first)
 }
 
-// Length of a row buffer for D tags: enough, to spare, or one too few.
-pub fn draw_row_words(tags: u32, random: &mut [u64; 1]) -> u32 {
-    let enough = product(2, tags);
-    let r = below(random, 20);
-    if r == 0 {
-        return less(enough, 1);
-    }
-    if r < 5 {
-        return sum(enough, r);
-    }
-    enough
-}
-
-// Length of a list for B blocks, likewise.
-pub fn draw_list_words(blocks: u32, random: &mut [u64; 1]) -> u32 {
-    let r = below(random, 20);
-    if r == 0 {
-        return less(blocks, 1);
-    }
-    if r < 5 {
-        return sum(blocks, r);
-    }
-    blocks
-}
-
-// Settings at and beyond each limit. The last two are within the limits, and no store of ours is as long as their layout.
-fn bad_settings(i: u32) -> Settings {
-    match i {
-        0 => settings::of(1, 1, 6, 4),
-        1 => settings::of(65, 2, 6, 4),
-        2 => settings::of(4, 0, 6, 4),
-        3 => settings::of(3, 2, 6, 4),
-        4 => settings::of(4, 2, 0, 4),
-        5 => settings::of(4, 2, 4097, 4),
-        6 => settings::of(4, 2, 8, 0),
-        7 => settings::of(4, 2, 8, 4097),
-        8 => settings::of(4, 4294967295, 8, 16),
-        9 => settings::of(4294967295, 2, 8, 16),
-        10 => settings::of(2, 1, 4096, 4),
-        _ => settings::of(64, 32, 4096, 4096),
+// Length of a lent buffer: enough, to spare, or one too few.
+fn buffer(notes: &mut Notes, enough: u32) -> u32 {
+    let r = below(notes, 20);
+    match r {
+        0 => less(enough, 1),
+        1..=4 => sum(enough, r),
+        _ => enough,
     }
 }
 
 // Settings for a start within a history: listed ones, or now and then bad ones; in a long history bad ones only, so that it goes on.
-pub fn draw_settings(log: &[u32; WORDS], random: &mut [u64; 1]) -> Settings {
-    let bad = bad_settings(below(random, 12));
-    if get(log, log::LONG) == 1 {
+pub fn settings(notes: &mut Notes) -> Settings {
+    let bad = settings::bad(below(notes, 12));
+    if get(notes, log::LONG) == 1 {
         return bad;
     }
-    if once_in(random, 3) {
+    if once_in(notes, 3) {
         return bad;
     }
-    settings::listed(below(random, settings::LISTED))
+    settings::listed(below(notes, settings::LISTED))
 }
 
-// A change as it is drawn, its kind aside, with the words that are lent.
-pub struct Change {
-    pub length: u32,
-    pub second: u32,
-    pub tag: u32,
-    pub reading: u32,
-}
-
-pub fn draw_change(
-    kind: u32,
-    log: &[u32; WORDS],
-    state: &mut [u32; WORDS],
-    random: &mut [u64; 1],
-) -> Change {
-    let length = draw_length(log, random);
-    let second = draw_second(log, random);
-    let tag = draw_tag(kind, log, state, random);
-    let reading = word(random);
+pub fn change(notes: &mut Notes, kind: u32) -> Change {
+    let length = length(notes);
+    let second = second(notes);
+    let tag = tag(notes, kind);
+    let reading = word(notes);
     Change {
+        kind,
         length,
         second,
         tag,
@@ -188,23 +134,22 @@ pub fn draw_change(
     }
 }
 
-// A look-back as it is drawn, with the words that are lent.
-pub struct LookBack {
-    pub length: u32,
-    pub second: u32,
-    pub row_words: u32,
-    pub list_words: u32,
-}
-
-pub fn draw_look_back(log: &[u32; WORDS], random: &mut [u64; 1]) -> LookBack {
-    let length = draw_length(log, random);
-    let second = draw_past(log, random);
-    let row_words = draw_row_words(get(log, log::TAGS), random);
-    let list_words = draw_list_words(get(log, log::BLOCKS), random);
+// A look-back at a second, with buffers for D rows and B blocks.
+pub fn look_back_at(notes: &mut Notes, length: u32, second: u32) -> LookBack {
+    let rows = product(2, get(notes, log::TAGS));
+    let row_words = buffer(notes, rows);
+    let blocks = get(notes, log::BLOCKS);
+    let list_words = buffer(notes, blocks);
     LookBack {
         length,
         second,
         row_words,
         list_words,
     }
+}
+
+pub fn look_back(notes: &mut Notes) -> LookBack {
+    let length = length(notes);
+    let second = past(notes);
+    look_back_at(notes, length, second)
 }

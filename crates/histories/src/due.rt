@@ -1,141 +1,102 @@
-// What document 01 has a call answer after an honest history: 0, or the first refusal of its list that applies. Refusal 12 never does.
+// What document 01 has a call answer after an honest history: 0, or the first refusal of its list that applies. UNSOUND never does.
+use crate::asked::ADVANCE;
+use crate::asked::Change;
+use crate::asked::LookBack;
+use crate::asked::SET;
 use crate::book;
-use crate::book::ADVANCE;
-use crate::book::SET;
 use crate::log;
+use crate::notes::Notes;
+use crate::notes::get;
+use crate::refusal;
 use crate::settings;
 use crate::settings::Settings;
 use crate::words::OPEN;
-use crate::words::WORDS;
-use crate::words::get;
 use crate::words::product;
 
-// Refusals 1, 2 and 4 of a start.
-pub fn due_start(s: Settings, length: u32) -> u32 {
+const HEAD_WORDS: u32 = 16;
+
+pub fn start(s: Settings, length: u32) -> u32 {
     if !settings::within(s) {
-        return 1;
+        return refusal::SETTINGS;
     }
-    if length < 16 {
-        return 2;
+    if length < HEAD_WORDS {
+        return refusal::SHORT_HEAD;
     }
     if length < settings::layout(s) {
-        return 4;
+        return refusal::SHORT_STORE;
     }
     0
 }
 
-// Refusals 2, 3 and 4 of every other call. Before the first start the store has no mark.
-fn due_head(log: &[u32; WORDS], length: u32) -> u32 {
-    if length < 16 {
-        return 2;
+// What every call but a start is refused for first. Before the first start the store has no mark.
+fn on_store(notes: &Notes, length: u32, second: u32) -> u32 {
+    if length < HEAD_WORDS {
+        return refusal::SHORT_HEAD;
     }
-    if get(log, log::STARTED) == 0 {
-        return 3;
+    if get(notes, log::STARTED) == 0 {
+        return refusal::HEAD;
     }
-    if length < settings::layout(log::current(log)) {
-        return 4;
-    }
-    0
-}
-
-// Refusals 8, 9 and 10 of a change whose second is fine. All changes of the log are made by then, so that the state is the state so far.
-fn due_tag(kind: u32, second: u32, tag: u32, log: &[u32; WORDS], state: &mut [u32; WORDS]) -> u32 {
-    if get(log, log::TAGS) <= tag {
-        return 8;
-    }
-    log::state_at(log, second, state);
-    let stands = get(state, tag);
-    if kind == SET {
-        if stands == 1 {
-            return 9;
-        }
-        return 0;
-    }
-    if stands == 0 {
-        return 10;
-    }
-    0
-}
-
-// Refusal 13: the book, tried on a copy, would have more than B blocks.
-fn due_blocks(
-    kind: u32,
-    second: u32,
-    tag: u32,
-    log: &[u32; WORDS],
-    book: &[u32; WORDS],
-    trial: &mut [u32; WORDS],
-) -> u32 {
-    book::copy_to(trial, book);
-    book::change(trial, kind, second, tag);
-    if get(log, log::BLOCKS) < book::blocks(trial) {
-        13
-    } else {
-        0
-    }
-}
-
-// Refusals 2 to 6 of a change or clock move.
-fn due_second(second: u32, length: u32, log: &[u32; WORDS]) -> u32 {
-    let head = due_head(log, length);
-    if head != 0 {
-        return head;
+    if length < log::layout(notes) {
+        return refusal::SHORT_STORE;
     }
     if second == OPEN {
-        return 5;
-    }
-    if second < get(log, log::CLOCK) {
-        return 6;
+        return refusal::TIME_OPEN;
     }
     0
 }
 
-pub fn due_change(
-    kind: u32,
-    second: u32,
-    tag: u32,
-    length: u32,
-    log: &[u32; WORDS],
-    state: &mut [u32; WORDS],
-    book: &[u32; WORDS],
-    trial: &mut [u32; WORDS],
-) -> u32 {
-    let early = due_second(second, length, log);
+// Refusals for the tag of a change whose second is fine. All changes of the log are made by then, so that the state is the state so far.
+fn of_tag(notes: &mut Notes, c: Change) -> u32 {
+    if get(notes, log::TAGS) <= c.tag {
+        return refusal::TAG;
+    }
+    log::state_at(notes, c.second);
+    if log::fits(notes, c.kind, c.tag) {
+        return 0;
+    }
+    if c.kind == SET {
+        refusal::STANDING
+    } else {
+        refusal::NOT_STANDING
+    }
+}
+
+// Where nothing is due, the book has the change.
+pub fn change(notes: &mut Notes, c: Change) -> u32 {
+    let early = on_store(notes, c.length, c.second);
     if early != 0 {
         return early;
     }
-    if kind == ADVANCE {
+    if c.second < get(notes, log::CLOCK) {
+        return refusal::EARLY;
+    }
+    if c.kind == ADVANCE {
         return 0;
     }
-    let tagged = due_tag(kind, second, tag, log, state);
+    let tagged = of_tag(notes, c);
     if tagged != 0 {
         return tagged;
     }
-    due_blocks(kind, second, tag, log, book, trial)
+    if book::takes(notes, c) {
+        0
+    } else {
+        refusal::OUT_OF_BLOCKS
+    }
 }
 
-pub fn due_look_back(
-    second: u32,
-    row_words: u32,
-    list_words: u32,
-    length: u32,
-    log: &[u32; WORDS],
-) -> u32 {
-    let head = due_head(log, length);
-    if head != 0 {
-        return head;
+pub fn look_back(notes: &Notes, a: LookBack) -> u32 {
+    let early = on_store(notes, a.length, a.second);
+    if early != 0 {
+        return early;
     }
-    if second == OPEN {
-        return 5;
+    if get(notes, log::CLOCK) < a.second {
+        return refusal::LATE;
     }
-    if get(log, log::CLOCK) < second {
-        return 7;
+    if a.row_words < product(2, get(notes, log::TAGS)) {
+        return refusal::SHORT_BUFFER;
     }
-    if row_words < product(2, get(log, log::TAGS)) {
-        return 11;
-    }
-    if list_words < get(log, log::BLOCKS) {
-        return 11;
+    if a.list_words < get(notes, log::BLOCKS) {
+        return refusal::SHORT_BUFFER;
     }
     0
 }

@@ -1,122 +1,168 @@
 // The plain log: the accepted changes of the present history in order, and beside them its settings and clock.
-// Words: the numbers named below; then from word 16 each change: kind, second, tag, reading.
-use crate::book::ADVANCE;
-use crate::book::CLEAR;
+// Words: the numbers named below, then four for each change. The state at a second is what the log comes to, played up to it.
+use crate::asked::ADVANCE;
+use crate::asked::CLEAR;
+use crate::asked::Change;
+use crate::asked::SET;
+use crate::notes::LOG;
+use crate::notes::Notes;
+use crate::notes::STATE;
+use crate::notes::add;
+use crate::notes::at;
+use crate::notes::fill;
+use crate::notes::get;
+use crate::notes::put;
+use crate::notes::put_at;
 use crate::settings;
 use crate::settings::Settings;
-use crate::words::WORDS;
-use crate::words::add;
-use crate::words::fill;
-use crate::words::get;
 use crate::words::product;
-use crate::words::put;
 use crate::words::sum;
 
 // Accepted changes since the start.
-pub const CHANGES: u32 = 0;
+pub const CHANGES: u32 = LOG;
+
+// Accepted sets and new readings among them.
+pub const SETS: u32 = LOG + 1;
 
 // The second of the last accepted change or clock move.
-pub const CLOCK: u32 = 1;
+pub const CLOCK: u32 = LOG + 2;
+
+pub const BLOCK: u32 = LOG + 3;
+
+pub const USEFUL: u32 = LOG + 4;
+
+pub const BLOCKS: u32 = LOG + 5;
+
+pub const TAGS: u32 = LOG + 6;
 
 // 1 once a start was accepted.
-pub const STARTED: u32 = 2;
-
-pub const BLOCK: u32 = 3;
-
-pub const USEFUL: u32 = 4;
-
-pub const BLOCKS: u32 = 5;
-
-pub const TAGS: u32 = 6;
-
-// Accepted sets and new readings since the start.
-pub const SETS: u32 = 7;
+pub const STARTED: u32 = LOG + 7;
 
 // How many words of the store this history lends.
-pub const LENGTH: u32 = 8;
+pub const LENGTH: u32 = LOG + 8;
 
 // 1 if this history is to run near the last second.
-pub const LATE: u32 = 9;
+pub const LATE: u32 = LOG + 9;
 
 // 1 if this history is a long one.
-pub const LONG: u32 = 10;
+pub const LONG: u32 = LOG + 10;
 
-const FIRST: u32 = 16;
+// Change i, from 1, has its four words 4 × i after this one.
+const BEFORE: u32 = LOG + 12;
 
-// In an array that tells a state: from here on the readings by tag. Before them stands 1 for each tag that stands.
-pub const READINGS: u32 = 4096;
+const KIND: u32 = 0;
 
-// In such an array too: room to mark tags and blocks as seen.
-pub const SEEN_TAGS: u32 = 8192;
+const SECOND: u32 = 1;
 
-pub const SEEN_BLOCKS: u32 = 12288;
+const TAG: u32 = 2;
 
-pub fn current(log: &[u32; WORDS]) -> Settings {
+const READING: u32 = 3;
+
+// Words beyond the lent ones that are compared too.
+const SPARE: u32 = 32;
+
+pub fn current(notes: &Notes) -> Settings {
     settings::of(
-        get(log, BLOCK),
-        get(log, USEFUL),
-        get(log, BLOCKS),
-        get(log, TAGS),
+        get(notes, BLOCK),
+        get(notes, USEFUL),
+        get(notes, BLOCKS),
+        get(notes, TAGS),
     )
 }
 
+// How many words a store with these settings has.
+pub fn layout(notes: &Notes) -> u32 {
+    settings::layout(current(notes))
+}
+
+// How many words of the store are compared: the lent ones and some more.
+pub fn extent(notes: &Notes) -> u32 {
+    sum(get(notes, LENGTH), SPARE)
+}
+
 // An empty log with these settings.
-pub fn begin(log: &mut [u32; WORDS], s: Settings) {
-    put(log, CHANGES, 0);
-    put(log, CLOCK, 0);
-    put(log, BLOCK, s.block);
-    put(log, USEFUL, s.useful);
-    put(log, BLOCKS, s.blocks);
-    put(log, TAGS, s.tags);
-    put(log, SETS, 0);
+pub fn begin(notes: &mut Notes, s: Settings) {
+    fill(notes, CHANGES, BLOCK, 0);
+    put(notes, BLOCK, s.block);
+    put(notes, USEFUL, s.useful);
+    put(notes, BLOCKS, s.blocks);
+    put(notes, TAGS, s.tags);
+}
+
+// Word j of change i, i from 1.
+fn word(notes: &Notes, i: u32, j: u32) -> u32 {
+    at(notes, sum(BEFORE, product(4, i)), j)
 }
 
 // Enters an accepted change; a clock move only moves the clock.
-pub fn enter(log: &mut [u32; WORDS], kind: u32, second: u32, tag: u32, reading: u32) {
-    put(log, CLOCK, second);
-    if kind == ADVANCE {
-        return;
-    }
-    let i = sum(FIRST, product(4, get(log, CHANGES)));
-    put(log, i, kind);
-    put(log, sum(i, 1), second);
-    put(log, sum(i, 2), tag);
-    put(log, sum(i, 3), reading);
-    add(log, CHANGES, 1);
-    if kind != CLEAR {
-        add(log, SETS, 1);
+pub fn enter(notes: &mut Notes, c: Change) {
+    put(notes, CLOCK, c.second);
+    if c.kind != ADVANCE {
+        add(notes, CHANGES, 1);
+        let i = sum(BEFORE, product(4, get(notes, CHANGES)));
+        write(notes, i, c);
+        let sets = if c.kind == CLEAR { 0 } else { 1 };
+        add(notes, SETS, sets);
     }
 }
 
-// Plays one change into a state, if it was made by t.
-fn play(log: &[u32; WORDS], change: u32, t: u32, state: &mut [u32; WORDS]) {
-    let i = sum(FIRST, product(4, change));
-    if t < get(log, sum(i, 1)) {
-        return;
-    }
-    let tag = get(log, sum(i, 2));
-    if get(log, i) == CLEAR {
-        put(state, tag, 0);
-    } else {
-        put(state, tag, 1);
-        put(state, sum(READINGS, tag), get(log, sum(i, 3)));
+fn write(notes: &mut Notes, i: u32, c: Change) {
+    put_at(notes, i, KIND, c.kind);
+    put_at(notes, i, SECOND, c.second);
+    put_at(notes, i, TAG, c.tag);
+    put_at(notes, i, READING, c.reading);
+}
+
+// What the state has for the tag of change i once this is played: its number, or 0 after a clear.
+fn left_by(notes: &Notes, i: u32) -> u32 {
+    if word(notes, i, KIND) == CLEAR { 0 } else { i }
+}
+
+// Plays change i into the state, if it was made by t.
+fn play(notes: &mut Notes, i: u32, t: u32) {
+    if word(notes, i, SECOND) <= t {
+        let tag = word(notes, i, TAG);
+        let left = left_by(notes, i);
+        put_at(notes, STATE, tag, left);
     }
 }
 
 // The state at t: all changes made by t, played in order.
-pub fn state_at(log: &[u32; WORDS], t: u32, state: &mut [u32; WORDS]) {
-    fill(state, 0, get(log, TAGS), 0);
-    let last = get(log, CHANGES);
+pub fn state_at(notes: &mut Notes, t: u32) {
+    let end = sum(STATE, get(notes, TAGS));
+    fill(notes, STATE, end, 0);
+    let last = get(notes, CHANGES);
     for i in 0..last {
-        play(log, i, t, state);
+        play(notes, sum(i, 1), t);
     }
 }
 
-// How many tags stand in a state.
-pub fn standing(state: &[u32; WORDS], tags: u32) -> u32 {
+// In that state:
+pub fn stands(notes: &Notes, tag: u32) -> bool {
+    at(notes, STATE, tag) != 0
+}
+
+// The reading of a tag that stands.
+pub fn reading(notes: &Notes, tag: u32) -> u32 {
+    word(notes, at(notes, STATE, tag), READING)
+}
+
+// How many tags stand.
+pub fn standing(notes: &Notes) -> u32 {
+    let tags = get(notes, TAGS);
     let mut found: u32 = 0;
-    for i in 0..tags {
-        found = sum(found, get(state, i));
+    for tag in 0..tags {
+        if stands(notes, tag) {
+            found = sum(found, 1);
+        }
     }
     found
+}
+
+// The tag can have a change of this kind: a set if it does not stand, any other if it stands.
+pub fn fits(notes: &Notes, kind: u32, tag: u32) -> bool {
+    if kind == SET {
+        return !stands(notes, tag);
+    }
+    stands(notes, tag)
 }

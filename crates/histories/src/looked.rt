@@ -1,21 +1,32 @@
-// An answered look-back against the log and the book. Each function answers 0, or the number of what does not agree.
+// What a look-back left, against the log and the book. Each function answers 0, or the number of what does not agree.
+use crate::asked::LookBack;
 use crate::book;
+use crate::calls::SPARE;
 use crate::log;
-use crate::words;
+use crate::notes::ANSWER;
+use crate::notes::LIST;
+use crate::notes::NAMED;
+use crate::notes::NAMED_END;
+use crate::notes::Notes;
+use crate::notes::ROWS;
+use crate::notes::STATE;
+use crate::notes::at;
+use crate::notes::fill;
+use crate::notes::get;
+use crate::notes::put_at;
+use crate::refusal::UNSOUND;
 use crate::words::OPEN;
-use crate::words::WORDS;
-use crate::words::fill;
-use crate::words::get;
 use crate::words::less;
+use crate::words::mark;
 use crate::words::product;
-use crate::words::put;
+use crate::words::quotient;
 use crate::words::sum;
 
 const COUNTS: u32 = 10;
 
 const ROW: u32 = 11;
 
-const LIST: u32 = 12;
+const NOT_LISTED: u32 = 12;
 
 const TWICE: u32 = 13;
 
@@ -27,133 +38,181 @@ const AFTER: u32 = 16;
 
 const TOUCHED: u32 = 17;
 
-// Words beyond a lent buffer that are looked at too.
-pub const SPARE: u32 = 8;
+// A row is a tag and, in the word after it, a reading.
+const READINGS: u32 = ROWS + 1;
 
-// The state at t has row i, and no row before had its tag.
-fn row(rows: &[u32; WORDS], i: u32, tags: u32, state: &mut [u32; WORDS]) -> u32 {
-    let tag = get(rows, product(2, i));
-    let reading = get(rows, sum(product(2, i), 1));
-    if tags <= tag {
-        return ROW;
+// The answer's six words: how many rows, pages and blocks of the list, and the page of each of the three levels.
+pub const ROW_COUNT: u32 = ANSWER;
+
+const PAGE_COUNT: u32 = ANSWER + 1;
+
+pub const LIST_COUNT: u32 = ANSWER + 2;
+
+const FIRST_PAGE: u32 = ANSWER + 3;
+
+const ANSWER_WORDS: u32 = 6;
+
+// Word i of a part: 0 before `zeros`, else its mark.
+fn is_left(notes: &Notes, part: u32, i: u32, zeros: u32) -> bool {
+    let left = at(notes, part, i);
+    if i < zeros {
+        return left == 0;
     }
-    if get(state, tag) != 1 {
-        return ROW;
-    }
-    if get(state, sum(log::READINGS, tag)) != reading {
-        return ROW;
-    }
-    if get(state, sum(log::SEEN_TAGS, tag)) != 0 {
-        return ROW;
-    }
-    put(state, sum(log::SEEN_TAGS, tag), 1);
-    0
+    left == mark(i)
 }
 
-fn every_row(rows: &[u32; WORDS], count: u32, tags: u32, state: &mut [u32; WORDS]) -> u32 {
-    for i in 0..count {
-        let found = row(rows, i, tags, state);
-        if found != 0 {
-            return found;
+// Words `from` to before `end` of a part are left so.
+fn are_left(notes: &Notes, part: u32, from: u32, zeros: u32, end: u32) -> bool {
+    for i in from..end {
+        if !is_left(notes, part, i, zeros) {
+            return false;
         }
     }
+    true
+}
+
+// An answered look-back has left the words after its rows and its list, also those beyond the lent buffers; the counts fit these.
+fn rest_left(notes: &Notes, a: LookBack) -> u32 {
+    let used = product(2, get(notes, ROW_COUNT));
+    let named = get(notes, LIST_COUNT);
+    if a.row_words < used {
+        return COUNTS;
+    }
+    if a.list_words < named {
+        return COUNTS;
+    }
+    if !are_left(notes, ROWS, used, 0, sum(a.row_words, SPARE)) {
+        return AFTER;
+    }
+    if !are_left(notes, LIST, named, 0, sum(a.list_words, SPARE)) {
+        return AFTER;
+    }
     0
 }
 
-// The rows are the log's state at t, order aside.
-fn rows_agree(
-    rows: &[u32; WORDS],
-    count: u32,
-    t: u32,
-    log: &[u32; WORDS],
-    state: &mut [u32; WORDS],
-) -> u32 {
-    let tags = get(log, log::TAGS);
-    log::state_at(log, t, state);
-    fill(state, log::SEEN_TAGS, sum(log::SEEN_TAGS, tags), 0);
-    if count != log::standing(state, tags) {
+// A refused one has left its answer's words, and of each buffer those from `rows` and `list` on; before them stand zeros.
+fn all_left(notes: &Notes, a: LookBack, rows: u32, list: u32) -> u32 {
+    if !are_left(notes, ROWS, 0, rows, sum(a.row_words, SPARE)) {
+        return TOUCHED;
+    }
+    if !are_left(notes, LIST, 0, list, sum(a.list_words, SPARE)) {
+        return TOUCHED;
+    }
+    if !are_left(notes, ANSWER, 0, 0, ANSWER_WORDS) {
+        return TOUCHED;
+    }
+    0
+}
+
+// What is left by a look-back that was answered `got`. One that finds the store unsound fills both buffers with zeros.
+pub fn left(notes: &Notes, a: LookBack, got: u32) -> u32 {
+    if got == 0 {
+        return rest_left(notes, a);
+    }
+    if got == UNSOUND {
+        return all_left(notes, a, a.row_words, a.list_words);
+    }
+    all_left(notes, a, 0, 0)
+}
+
+// A row of the state: a tag that stands, with its reading.
+fn in_state(notes: &Notes, tag: u32, reading: u32) -> bool {
+    if get(notes, log::TAGS) <= tag {
+        return false;
+    }
+    if log::stands(notes, tag) {
+        return log::reading(notes, tag) == reading;
+    }
+    false
+}
+
+// The rows are the log's state at t, order aside. Each row takes its tag out of the state, so that none stands twice.
+fn rows_agree(notes: &mut Notes, t: u32) -> u32 {
+    log::state_at(notes, t);
+    let count = get(notes, ROW_COUNT);
+    if count != log::standing(notes) {
         return ROW;
     }
-    every_row(rows, count, tags, state)
+    for i in 0..count {
+        let tag = at(notes, ROWS, product(2, i));
+        let reading = at(notes, READINGS, product(2, i));
+        if !in_state(notes, tag, reading) {
+            return ROW;
+        }
+        put_at(notes, STATE, tag, 0);
+    }
+    0
 }
 
-// Entry i of the list is a block, and none before it was the same.
-fn listed(list: &[u32; WORDS], i: u32, blocks: u32, state: &mut [u32; WORDS]) -> u32 {
-    let n = get(list, i);
+// A block of the book that no entry of the list has named yet.
+fn unnamed(notes: &Notes, n: u32) -> bool {
     if n == 0 {
-        return LIST;
+        return false;
     }
-    if blocks < n {
-        return LIST;
+    if get(notes, book::BLOCKS) < n {
+        return false;
     }
-    if get(state, sum(log::SEEN_BLOCKS, n)) != 0 {
-        return LIST;
-    }
-    put(state, sum(log::SEEN_BLOCKS, n), 1);
-    0
+    at(notes, NAMED, n) == 0
 }
 
 // The list names blocks of the book, none twice.
-fn list_agrees(list: &[u32; WORDS], count: u32, blocks: u32, state: &mut [u32; WORDS]) -> u32 {
-    fill(
-        state,
-        log::SEEN_BLOCKS,
-        sum(log::SEEN_BLOCKS, sum(blocks, 1)),
-        0,
-    );
+fn list_agrees(notes: &mut Notes) -> u32 {
+    fill(notes, NAMED, NAMED_END, 0);
+    let count = get(notes, LIST_COUNT);
     for i in 0..count {
-        let found = listed(list, i, blocks, state);
-        if found != 0 {
-            return found;
+        let n = at(notes, LIST, i);
+        if !unnamed(notes, n) {
+            return NOT_LISTED;
         }
+        put_at(notes, NAMED, n, 1);
     }
     0
 }
 
-// The list has at most twice the blocks open at t, and those open, times q, are no more than the rows plus q.
-fn limits(rows: u32, list: u32, t: u32, book: &[u32; WORDS], useful: u32) -> u32 {
-    let open = book::open_at(book, t);
-    if product(2, open) < list {
+// "A block is open at t if opened ≤ t < closed." The list has at most twice the blocks open at t, and those open, times q, are no more than
+// the rows plus q.
+fn limits(notes: &Notes, t: u32) -> u32 {
+    let opened = book::count_by(notes, book::OPENED, t);
+    let open = less(opened, book::count_by(notes, book::CLOSED, t));
+    if product(2, open) < get(notes, LIST_COUNT) {
         return TWICE;
     }
-    if sum(rows, useful) < product(open, useful) {
+    let useful = get(notes, log::USEFUL);
+    if sum(get(notes, ROW_COUNT), useful) < product(open, useful) {
         return USEFUL;
     }
     0
 }
 
-// The lowest level that has all entries on one page.
-fn top_level(blocks: u32) -> u32 {
-    if blocks < 17 {
-        return 0;
+// How many blocks lie under one page of a level.
+fn page_blocks(level: u32) -> u32 {
+    match level {
+        0 => 16,
+        1 => 256,
+        _ => 4096,
     }
-    if blocks < 257 {
-        return 1;
-    }
-    2
 }
 
-// The page of a level that the last block opened by t leads through, counted from 0 in its level; OPEN if none is passed.
-fn page_due(book: &[u32; WORDS], t: u32, level: u32) -> u32 {
-    let blocks = book::blocks(book);
+// The page of a level that the last block opened by t leads through, counted from 0 in its level; OPEN if none is passed. The top level is
+// the lowest that has all blocks under one page.
+fn page_due(notes: &Notes, t: u32, level: u32) -> u32 {
+    let blocks = get(notes, book::BLOCKS);
     if blocks == 0 {
         return OPEN;
     }
-    let top = top_level(blocks);
-    if top < level {
-        return OPEN;
+    if 0 < level {
+        if blocks <= page_blocks(level - 1) {
+            return OPEN;
+        }
     }
-    if level == top {
+    if blocks <= page_blocks(level) {
         return 0;
     }
-    let n = book::last_opened(book, t);
+    let n = book::count_by(notes, book::OPENED, t);
     if n == 0 {
         return OPEN;
     }
-    if level == 0 {
-        return (less(n, 1)) / 16;
-    }
-    (less(n, 1)) / 256
+    quotient(less(n, 1), page_blocks(level))
 }
 
 fn passed(page: u32) -> u32 {
@@ -161,121 +220,38 @@ fn passed(page: u32) -> u32 {
 }
 
 // The pages of the three levels, and how many they are.
-fn pages_agree(book: &[u32; WORDS], t: u32, answer: &[u32; 6]) -> u32 {
-    let lowest = page_due(book, t, 0);
-    let middle = page_due(book, t, 1);
-    let highest = page_due(book, t, 2);
-    if answer[3] != lowest {
+fn pages_agree(notes: &Notes, t: u32) -> u32 {
+    let lowest = page_due(notes, t, 0);
+    let middle = page_due(notes, t, 1);
+    let highest = page_due(notes, t, 2);
+    if get(notes, FIRST_PAGE) != lowest {
         return PAGES;
     }
-    if answer[4] != middle {
+    if get(notes, FIRST_PAGE + 1) != middle {
         return PAGES;
     }
-    if answer[5] != highest {
+    if get(notes, FIRST_PAGE + 2) != highest {
         return PAGES;
     }
-    if answer[1] != sum(passed(lowest), sum(passed(middle), passed(highest))) {
+    if get(notes, PAGE_COUNT) != sum(passed(lowest), sum(passed(middle), passed(highest))) {
         return COUNTS;
-    }
-    0
-}
-
-// The words after rows and list keep their marks, also those beyond the lent buffers; the counts fit the buffers.
-pub fn rest_kept(
-    rows: &[u32; WORDS],
-    row_words: u32,
-    list: &[u32; WORDS],
-    list_words: u32,
-    answer: &[u32; 6],
-) -> u32 {
-    let used = product(2, answer[0]);
-    let named = answer[2];
-    if row_words < used {
-        return COUNTS;
-    }
-    if list_words < named {
-        return COUNTS;
-    }
-    if !words::marks_kept(rows, used, sum(row_words, SPARE)) {
-        return AFTER;
-    }
-    if !words::marks_kept(list, named, sum(list_words, SPARE)) {
-        return AFTER;
     }
     0
 }
 
 // Rows, list, limits and pages of an answer at t.
-pub fn answer_agrees(
-    t: u32,
-    rows: &[u32; WORDS],
-    list: &[u32; WORDS],
-    answer: &[u32; 6],
-    book: &[u32; WORDS],
-    log: &[u32; WORDS],
-    state: &mut [u32; WORDS],
-) -> u32 {
-    let mut found = rows_agree(rows, answer[0], t, log, state);
+pub fn answer_agrees(notes: &mut Notes, t: u32) -> u32 {
+    let mut found = rows_agree(notes, t);
     if found != 0 {
         return found;
     }
-    found = list_agrees(list, answer[2], book::blocks(book), state);
+    found = list_agrees(notes);
     if found != 0 {
         return found;
     }
-    found = limits(answer[0], answer[2], t, book, get(log, log::USEFUL));
+    found = limits(notes, t);
     if found != 0 {
         return found;
     }
-    pages_agree(book, t, answer)
-}
-
-// The six words of an answer are as they were lent.
-fn answer_kept(answer: &[u32; 6]) -> bool {
-    for i in 0..6 {
-        if answer[i] != 77 {
-            return false;
-        }
-    }
-    true
-}
-
-// A refused look-back has left both buffers and the answer.
-pub fn untouched(
-    rows: &[u32; WORDS],
-    row_words: u32,
-    list: &[u32; WORDS],
-    list_words: u32,
-    answer: &[u32; 6],
-) -> u32 {
-    if !words::marks_kept(rows, 0, sum(row_words, SPARE)) {
-        return TOUCHED;
-    }
-    if !words::marks_kept(list, 0, sum(list_words, SPARE)) {
-        return TOUCHED;
-    }
-    if answer_kept(answer) { 0 } else { TOUCHED }
-}
-
-// A look-back refused with 12 has filled both buffers with zeros, and nothing beyond them.
-pub fn zeroed(
-    rows: &[u32; WORDS],
-    row_words: u32,
-    list: &[u32; WORDS],
-    list_words: u32,
-    answer: &[u32; 6],
-) -> u32 {
-    if !words::all_zero(rows, 0, row_words) {
-        return TOUCHED;
-    }
-    if !words::all_zero(list, 0, list_words) {
-        return TOUCHED;
-    }
-    if !words::marks_kept(rows, row_words, sum(row_words, SPARE)) {
-        return TOUCHED;
-    }
-    if !words::marks_kept(list, list_words, sum(list_words, SPARE)) {
-        return TOUCHED;
-    }
-    if answer_kept(answer) { 0 } else { TOUCHED }
+    pages_agree(notes, t)
 }

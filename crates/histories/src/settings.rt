@@ -1,4 +1,5 @@
 // The settings that the histories run with, and where document 01 lays each word of a store with them.
+use crate::words::less;
 use crate::words::product;
 use crate::words::sum;
 
@@ -11,6 +12,15 @@ pub struct Settings {
     pub blocks: u32,
     // D: tags
     pub tags: u32,
+}
+
+pub fn of(block: u32, useful: u32, blocks: u32, tags: u32) -> Settings {
+    Settings {
+        block,
+        useful,
+        blocks,
+        tags,
+    }
 }
 
 // How many settings `listed` has for histories of 200 calls; the next one is for the long histories.
@@ -34,69 +44,61 @@ pub fn listed(i: u32) -> Settings {
     }
 }
 
-pub fn of(block: u32, useful: u32, blocks: u32, tags: u32) -> Settings {
-    Settings {
-        block: block,
-        useful: useful,
-        blocks: blocks,
-        tags: tags,
+// Settings at and beyond each limit. The last two are within the limits, and no store of ours is as long as their layout.
+pub fn bad(i: u32) -> Settings {
+    match i {
+        0 => of(1, 1, 6, 4),
+        1 => of(65, 2, 6, 4),
+        2 => of(4, 0, 6, 4),
+        3 => of(3, 2, 6, 4),
+        4 => of(4, 2, 0, 4),
+        5 => of(4, 2, 4097, 4),
+        6 => of(4, 2, 8, 0),
+        7 => of(4, 2, 8, 4097),
+        8 => of(4, 4294967295, 8, 16),
+        9 => of(4294967295, 2, 8, 16),
+        10 => of(2, 1, 4096, 4),
+        _ => of(64, 32, 4096, 4096),
     }
+}
+
+pub fn between(low: u32, x: u32, high: u32) -> bool {
+    if x < low {
+        return false;
+    }
+    x <= high
 }
 
 // "b 2 to 64, q at least 1 with 2q ≤ b, block limit B 1 to 4,096, D 1 to 4,096"
 pub fn within(s: Settings) -> bool {
-    if s.block < 2 {
+    if !between(2, s.block, 64) {
         return false;
     }
-    if 64 < s.block {
+    if !between(1, s.useful, s.block / 2) {
         return false;
     }
-    if s.useful < 1 {
+    if !between(1, s.blocks, 4096) {
         return false;
     }
-    if s.block / 2 < s.useful {
-        return false;
-    }
-    if s.blocks < 1 {
-        return false;
-    }
-    if 4096 < s.blocks {
-        return false;
-    }
-    if s.tags < 1 {
-        return false;
-    }
-    s.tags <= 4096
+    between(1, s.tags, 4096)
 }
 
-fn block_length(s: Settings) -> u32 {
-    sum(8, product(4, s.block))
-}
-
-// Head 16, index 4,096 + 256 + 16, directory D, then the blocks.
-pub fn layout(s: Settings) -> u32 {
-    sum(first_block(s), product(s.blocks, block_length(s)))
-}
-
+// Where the directory starts: after the head's 16 words and the index's 4,096 + 256 + 16. The blocks follow it.
 pub const DIRECTORY: u32 = 4384;
-
-fn first_block(s: Settings) -> u32 {
-    sum(DIRECTORY, s.tags)
-}
 
 // Word j of block n, n from 1.
 pub fn block_word(s: Settings, n: u32, j: u32) -> u32 {
-    let before = crate::words::less(n, 1);
-    sum(sum(first_block(s), product(before, block_length(s))), j)
+    let length = sum(8, product(4, s.block));
+    let first = sum(DIRECTORY, s.tags);
+    sum(sum(first, product(less(n, 1), length)), j)
+}
+
+// How many words a store has: the next would be the first of the block after the last.
+pub fn layout(s: Settings) -> u32 {
+    block_word(s, sum(s.blocks, 1), 0)
 }
 
 // Word j of slot k of block n.
 pub fn slot_word(s: Settings, n: u32, k: u32, j: u32) -> u32 {
     block_word(s, n, sum(sum(8, product(4, k)), j))
-}
-
-// "Slot k (from 0) of block n has place (n − 1) × b + k + 1."
-pub fn place(s: Settings, n: u32, k: u32) -> u32 {
-    let before = crate::words::less(n, 1);
-    sum(sum(product(before, s.block), k), 1)
 }

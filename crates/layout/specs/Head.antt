@@ -5,12 +5,21 @@ use Prim.Native.Nat.{ℕ, _+_, _*_, _-_}
 use lib.Dec.{eqb, ltb, leb}
 use lib.ListN.{length, getD, drop, replicate}
 use Rattle.layout.specs.declared.settings.Settings.{Settings}
+use Rattle.layout.specs.declared.head.Cursor.{Cursor}
 use Rattle.layout.specs.declared.head.Head.{Head}
 use Rattle.layout.specs.declared.head.HeadAnswer.{HeadAnswer}
 use Rattle.layout.specs.declared.head.HeadAnswer.the-variants.{Read, Refused}
 use Rattle.layout.specs.Sizes.{OPEN, mark, headLen, layoutLen}
 use Rattle.layout.specs.Fields.{headMark, headBlock, headUseful, headBlocks, headTags, headOpened, headClock, headFill, headChild, headRight, headSpare}
 use Rattle.layout.specs.Settings.{inLimits}
+
+-- the head that a start leaves: no block is opened, and the clock is 0
+abbrev pub fresh : Settings → Head
+fresh s = record { settings = s; cursor = record { opened = 0; clock = 0; fill = 0; child = 0; right = 0 } }
+
+-- the head moves on: its settings stay
+abbrev pub onward : Head → Cursor → Head
+onward h c = record { settings = h .settings; cursor = c }
 
 -- the head that the words hold
 unfoldable pub headOf : List ℕ → Head

@@ -4,11 +4,13 @@ pub mod Address
 pub mod Memory
 pub mod Interp
 pub mod Program
+pub mod RefusalNumbers
 pub mod Settings
 pub mod Head
 pub mod Cursor
 pub mod Standing
 pub mod Parts
+pub mod Places
 pub mod Words
 pub mod AddressLaws
 pub mod ProgramLaws
@@ -21,3 +23,5 @@ pub mod HeadLaws
 pub mod StandingLaws
 pub mod OverLaws
 pub mod Able
+pub mod Moved
+pub mod Spot

@@ -6,6 +6,10 @@ use Rattle.layout.specs.declared.settings.Settings.{Settings}
 use Rattle.layout.specs.declared.settings.SettingsAnswer.{SettingsAnswer}
 use Rattle.layout.specs.declared.settings.SettingsAnswer.the-variants.{Fit, Refused}
 
+-- b, q, B and D as one value
+abbrev pub settingsOf : ℕ → ℕ → ℕ → ℕ → Settings
+settingsOf block useful blocks tags = record { block = block; useful = useful; blocks = blocks; tags = tags }
+
 -- b 2 to 64, q at least 1 with 2q ≤ b, block limit B 1 to 4,096, D 1 to 4,096
 unfoldable pub inLimits : Settings → Bool
 inLimits s =
@@ -17,7 +21,7 @@ inLimits s =
 -- refusal 1 for exactly the settings outside of them
 unfoldable pub settingsAnswer : ℕ → ℕ → ℕ → ℕ → SettingsAnswer
 settingsAnswer block useful blocks tags =
-    let s : Settings = record { block = block; useful = useful; blocks = blocks; tags = tags } in
+    let s : Settings = settingsOf block useful blocks tags in
     cond (inLimits s) (Fit s) (Refused 1)
 
 -- the limits as facts

@@ -8,6 +8,12 @@ use Rattle.base.specs.Bits.{bitAt, withBit, withoutBit}
 use Rattle.base.specs.Places.{lowerOff}
 use Rattle.base.specs.Slots.{slotsOf}
 use Rattle.layout.specs.declared.standing.Standing.{Standing}
+use Rattle.layout.specs.declared.address.Address.the-variants.{Bits}
+use Rattle.layout.specs.Memory.{Memory}
+
+-- the two words of block n
+abbrev pub blockBits : Memory → ℕ → Standing
+blockBits f n = record { low = f (Bits n 0); high = f (Bits n 1) }
 
 -- the standing slots in order; how many stand is the number of ones
 abbrev pub slots : Standing → List ℕ

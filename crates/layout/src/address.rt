@@ -1,17 +1,21 @@
 // The words of a store by what they are, and never by where they lie.
+use crate::fields;
 use crate::parts;
 use crate::settings::Settings;
 use crate::sizes;
+use crate::standing::Standing;
+ghost use mathlib.Core.Path.{_≡_};
 ghost use Rattle.layout.specs.Address.{Numbered, Valid};
 ghost use Rattle.layout.specs.Program.{get!, set!, wipe! };
 ghost use Rattle.layout.specs.Settings.{Within};
 ghost use Rattle.layout.specs.Ran.{Ran};
 ghost use Rattle.layout.specs.OnWords.{over, Held};
+ghost use Rattle.layout.specs.Standing.{blockBits};
 ghost use Rattle.layout.specs.OffsetLaws.{LevelAt, BlockAt, Placed};
 
 pub enum Address {
     // a word of the head
-    Head(u32),
+    Head(usize),
     // level and entry of the index
     Time(u32, u32),
     // a tag's directory entry
@@ -49,13 +53,13 @@ pub(crate) fn block_start(s: Settings, n: u32) -> usize
 }
 
 // Where a word lies.
-pub fn offset_of(s: Settings, a: Address) -> usize
+fn offset_of(s: Settings, a: Address) -> usize
     requires { ⌜ Valid s a ⌝ }
     requires { ⌜ Within s ⌝ }
     ensures { λ r. ⌜ Placed s a r ⌝ }
 {
     match a {
-        Address::Head(j) => j as usize,
+        Address::Head(j) => j,
         Address::Time(l, i) => level_start(l) + i as usize,
         Address::Dir(t) => sizes::DIR_START + t as usize,
         Address::Field(n, j) => block_start(s, n) + j as usize,
@@ -84,6 +88,17 @@ pub fn write(store: &mut [u32], s: Settings, a: Address, v: u32)
 {
     let at = offset_of(s, a);
     store[at] = v;
+}
+
+// The standing bits of block n.
+pub fn standing(store: &[u32], s: Settings, n: u32) -> Standing
+    requires { ⌜ Numbered s n ⌝ }
+    requires { ⌜ Held s (now store) ⌝ }
+    ensures { λ r. ⌜ r ≡ blockBits (over s .read (now (store .entry))) n ⌝ }
+{
+    let low = read(store, s, Address::Bits(n, fields::LOW));
+    let high = read(store, s, Address::Bits(n, fields::HIGH));
+    Standing { low, high }
 }
 
 // All words of block n set to zero.

@@ -1,4 +1,5 @@
-// The head of the store as one value: read with its refusals, and written.
+// The head of the store as one value: read with its refusals, written, and moved on. A change takes the head, and each of the methods `at`, `filled`,
+// `grown` and `relinked` answers the next one.
 use crate::address;
 use crate::address::Address;
 use crate::fields;
@@ -11,13 +12,13 @@ ghost use Prim.Native.Nat.{_≤_, _<_};
 ghost use lib.ListN.{length};
 ghost use Rattle.layout.specs.Sizes.{headLen, layoutLen};
 ghost use Rattle.layout.specs.Settings.{Within};
-ghost use Rattle.layout.specs.Head.{headOf, withHead, cleared, fillFits, spareZero, badHead, headRefusal, headAnswer, placed};
+ghost use Rattle.layout.specs.Head.{fresh, onward, headOf, withHead, cleared, fillFits, spareZero, badHead, headRefusal, headAnswer, placed};
 ghost use Rattle.layout.specs.HeadLaws.{SoundHead};
 ghost use Rattle.layout.specs.Cursor.{at, filled, grown, relinked, storeCursor};
 ghost use Rattle.layout.specs.Ran.{Ran};
 ghost use Rattle.layout.specs.OnWords.{over, Held};
 
-// What a change moves on: the part of the head that is not settings.
+// The part of the head that moves on: what is not settings.
 pub struct Cursor {
     // N: blocks opened; block N is the acceptor
     pub opened: u32,
@@ -42,79 +43,81 @@ pub enum HeadAnswer {
     Refused(u32),
 }
 
-impl Cursor {
-    // The clock stands at `second`.
-    pub fn at(self, second: u32) -> Cursor
-        ensures { λ r. ⌜ r ≡ at second self ⌝ }
+impl Head {
+    // The head that a start leaves: no block is opened, and the clock is 0.
+    pub fn fresh(settings: Settings) -> Head
+        ensures { λ r. ⌜ r ≡ fresh settings ⌝ }
     {
-        Cursor {
-            opened: self.opened,
-            clock: second,
-            fill: self.fill,
-            child: self.child,
-            right: self.right,
-        }
-    }
-
-    // One record more in the acceptor.
-    pub fn filled(self) -> Cursor
-        requires { ⌜ self .fill < 64 ⌝ }
-        ensures { λ r. ⌜ r ≡ filled self ⌝ }
-    {
-        Cursor {
-            opened: self.opened,
-            clock: self.clock,
-            fill: self.fill + 1,
-            child: self.child,
-            right: self.right,
-        }
-    }
-
-    // One block more, empty; `right` is right of block 0.
-    pub fn grown(self, right: u32) -> Cursor
-        requires { ⌜ self .opened < 4096 ⌝ }
-        ensures { λ r. ⌜ r ≡ grown right self ⌝ }
-    {
-        Cursor {
-            opened: self.opened + 1,
-            clock: self.clock,
+        let cursor = Cursor {
+            opened: 0,
+            clock: 0,
             fill: 0,
-            child: self.child,
-            right,
-        }
+            child: 0,
+            right: 0,
+        };
+        Head { settings, cursor }
     }
 
-    // Block 0's last child and right.
-    pub fn relinked(self, child: u32, right: u32) -> Cursor
-        ensures { λ r. ⌜ r ≡ relinked child right self ⌝ }
+    // The next head, its clock at `second`.
+    pub fn at(self, second: u32) -> Head
+        ensures { λ r. ⌜ r ≡ onward self (at second (self .cursor)) ⌝ }
     {
-        Cursor {
-            opened: self.opened,
-            clock: self.clock,
-            fill: self.fill,
+        let settings = self.settings;
+        let cursor = Cursor {
+            opened: self.cursor.opened,
+            clock: second,
+            fill: self.cursor.fill,
+            child: self.cursor.child,
+            right: self.cursor.right,
+        };
+        Head { settings, cursor }
+    }
+
+    // The next head, with one record more in the acceptor.
+    pub fn filled(self) -> Head
+        requires { ⌜ self .cursor .fill < 64 ⌝ }
+        ensures { λ r. ⌜ r ≡ onward self (filled (self .cursor)) ⌝ }
+    {
+        let settings = self.settings;
+        let cursor = Cursor {
+            opened: self.cursor.opened,
+            clock: self.cursor.clock,
+            fill: self.cursor.fill + 1,
+            child: self.cursor.child,
+            right: self.cursor.right,
+        };
+        Head { settings, cursor }
+    }
+
+    // The next head, with one block more, empty; `right` is right of block 0.
+    pub fn grown(self, right: u32) -> Head
+        requires { ⌜ self .cursor .opened < 4096 ⌝ }
+        ensures { λ r. ⌜ r ≡ onward self (grown right (self .cursor)) ⌝ }
+    {
+        let settings = self.settings;
+        let cursor = Cursor {
+            opened: self.cursor.opened + 1,
+            clock: self.cursor.clock,
+            fill: 0,
+            child: self.cursor.child,
+            right,
+        };
+        Head { settings, cursor }
+    }
+
+    // The next head, with block 0's last child and right.
+    pub fn relinked(self, child: u32, right: u32) -> Head
+        ensures { λ r. ⌜ r ≡ onward self (relinked child right (self .cursor)) ⌝ }
+    {
+        let settings = self.settings;
+        let cursor = Cursor {
+            opened: self.cursor.opened,
+            clock: self.cursor.clock,
+            fill: self.cursor.fill,
             child,
             right,
-        }
-    }
-}
-
-impl Head {
-    pub fn opened(self) -> u32
-        ensures { λ r. ⌜ r ≡ self .cursor .opened ⌝ }
-    {
-        self.cursor.opened
-    }
-
-    pub fn clock(self) -> u32
-        ensures { λ r. ⌜ r ≡ self .cursor .clock ⌝ }
-    {
-        self.cursor.clock
-    }
-
-    pub fn fill(self) -> u32
-        ensures { λ r. ⌜ r ≡ self .cursor .fill ⌝ }
-    {
-        self.cursor.fill
+        };
+        Head { settings, cursor }
     }
 
     // Records placed so far: every block before the acceptor is full.
@@ -148,17 +151,17 @@ pub fn head_of(store: &[u32]) -> Head
     ensures { λ r. ⌜ r ≡ headOf (now (store .entry)) ⌝ }
 {
     let settings = Settings {
-        block: store[1],
-        useful: store[2],
-        blocks: store[3],
-        tags: store[4],
+        block: store[fields::HEAD_BLOCK],
+        useful: store[fields::HEAD_USEFUL],
+        blocks: store[fields::HEAD_BLOCKS],
+        tags: store[fields::HEAD_TAGS],
     };
     let cursor = Cursor {
-        opened: store[5],
-        clock: store[6],
-        fill: store[7],
-        child: store[8],
-        right: store[9],
+        opened: store[fields::HEAD_OPENED],
+        clock: store[fields::HEAD_CLOCK],
+        fill: store[fields::HEAD_FILL],
+        child: store[fields::HEAD_CHILD],
+        right: store[fields::HEAD_RIGHT],
     };
     Head { settings, cursor }
 }
@@ -168,22 +171,22 @@ fn spare_zero(store: &[u32]) -> bool
     requires { ⌜ headLen ≤ length (now store) ⌝ }
     ensures { λ r. ⌜ r ≡ spareZero (now (store .entry)) ⌝ }
 {
-    if store[10] != 0 {
+    if store[fields::HEAD_SPARE_0] != 0 {
         return false;
     }
-    if store[11] != 0 {
+    if store[fields::HEAD_SPARE_1] != 0 {
         return false;
     }
-    if store[12] != 0 {
+    if store[fields::HEAD_SPARE_2] != 0 {
         return false;
     }
-    if store[13] != 0 {
+    if store[fields::HEAD_SPARE_3] != 0 {
         return false;
     }
-    if store[14] != 0 {
+    if store[fields::HEAD_SPARE_4] != 0 {
         return false;
     }
-    store[15] == 0
+    store[fields::HEAD_SPARE_5] == 0
 }
 
 // Refusal 3: words that no start and no change left.
@@ -191,7 +194,7 @@ fn bad_head(store: &[u32]) -> bool
     requires { ⌜ headLen ≤ length (now store) ⌝ }
     ensures { λ r. ⌜ r ≡ badHead (now (store .entry)) ⌝ }
 {
-    if store[0] != sizes::MARK {
+    if store[fields::HEAD_MARK] != sizes::MARK {
         return true;
     }
     let h = head_of(store);
@@ -239,29 +242,31 @@ pub fn write_head(store: &mut [u32], h: Head)
     requires { ⌜ headLen ≤ length (now store) ⌝ }
     ensures { λ _. ⌜ now (store .exit) ≡ withHead h (now (store .entry)) ⌝ }
 {
-    store[0] = sizes::MARK;
-    store[1] = h.settings.block;
-    store[2] = h.settings.useful;
-    store[3] = h.settings.blocks;
-    store[4] = h.settings.tags;
-    store[5] = h.cursor.opened;
-    store[6] = h.cursor.clock;
-    store[7] = h.cursor.fill;
-    store[8] = h.cursor.child;
-    store[9] = h.cursor.right;
-    store[10] = 0;
-    store[11] = 0;
-    store[12] = 0;
-    store[13] = 0;
-    store[14] = 0;
-    store[15] = 0;
+    store[fields::HEAD_MARK] = sizes::MARK;
+    store[fields::HEAD_BLOCK] = h.settings.block;
+    store[fields::HEAD_USEFUL] = h.settings.useful;
+    store[fields::HEAD_BLOCKS] = h.settings.blocks;
+    store[fields::HEAD_TAGS] = h.settings.tags;
+    store[fields::HEAD_OPENED] = h.cursor.opened;
+    store[fields::HEAD_CLOCK] = h.cursor.clock;
+    store[fields::HEAD_FILL] = h.cursor.fill;
+    store[fields::HEAD_CHILD] = h.cursor.child;
+    store[fields::HEAD_RIGHT] = h.cursor.right;
+    store[fields::HEAD_SPARE_0] = 0;
+    store[fields::HEAD_SPARE_1] = 0;
+    store[fields::HEAD_SPARE_2] = 0;
+    store[fields::HEAD_SPARE_3] = 0;
+    store[fields::HEAD_SPARE_4] = 0;
+    store[fields::HEAD_SPARE_5] = 0;
 }
 
 // The words that a change moves on; the settings are never written again.
-pub fn write_cursor(store: &mut [u32], s: Settings, c: Cursor)
-    requires { ⌜ Held s (now store) ⌝ }
-    ensures { λ _. ⌜ Ran (over s) (storeCursor c) (now (store .entry)) tt (now (store .exit)) ⌝ }
+pub fn write_cursor(store: &mut [u32], h: Head)
+    requires { ⌜ Held (h .settings) (now store) ⌝ }
+    ensures { λ _. ⌜ Ran (over (h .settings)) (storeCursor (h .cursor)) (now (store .entry)) tt (now (store .exit)) ⌝ }
 {
+    let s = h.settings;
+    let c = h.cursor;
     address::write(store, s, Address::Head(fields::HEAD_OPENED), c.opened);
     address::write(store, s, Address::Head(fields::HEAD_CLOCK), c.clock);
     address::write(store, s, Address::Head(fields::HEAD_FILL), c.fill);

@@ -58,8 +58,9 @@ pub fn page(level: &[u32], e: u32) -> &[u32]
     requires { ⌜ pageLen * e + pageLen ≤ length (now level) ⌝ }
     ensures { λ r. ⌜ PagePart (now (level .entry)) e (now r) ⌝ }
 {
-    let start = sizes::PAGE_LEN * e as usize;
-    part(level, start, sizes::PAGE_LEN)
+    let len = sizes::PAGE as usize;
+    let start = len * e as usize;
+    part(level, start, len)
 }
 
 // A second, a link or a word of standing bits of a block.
@@ -80,7 +81,7 @@ pub fn slot_word(block: &[u32], k: u32, i: u32) -> u32
 }
 
 // Every word of a part set to zero.
-fn zero_all(part: &mut [u32])
+pub fn zero_all(part: &mut [u32])
     ensures { λ _. ⌜ now (part .exit) ≡ replicate (length (now (part .entry))) 0 ⌝ }
 {
     let mut i = 0;

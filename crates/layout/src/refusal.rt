@@ -15,12 +15,12 @@ pub const LATE: u32 = 7;
 
 pub const TAG: u32 = 8;
 
-pub const STANDS: u32 = 9;
+pub const STANDING: u32 = 9;
 
-pub const ABSENT: u32 = 10;
+pub const NOT_STANDING: u32 = 10;
 
-pub const BUFFERS: u32 = 11;
+pub const SHORT_BUFFER: u32 = 11;
 
 pub const UNSOUND: u32 = 12;
 
-pub const BLOCKS_OUT: u32 = 13;
+pub const OUT_OF_BLOCKS: u32 = 13;

@@ -2,7 +2,7 @@
 use crate::refusal;
 use crate::sizes;
 ghost use mathlib.Core.Path.{_≡_};
-ghost use Rattle.layout.specs.Settings.{inLimits, settingsAnswer, Within};
+ghost use Rattle.layout.specs.Settings.{settingsOf, inLimits, settingsAnswer, Within};
 ghost use Rattle.layout.specs.SettingsLaws.{BlockLong, StoreLong};
 
 pub struct Settings {
@@ -36,6 +36,18 @@ impl Settings {
     pub const LEAST_TAGS: u32 = 1;
 
     pub const MOST_TAGS: u32 = 4096;
+
+    // Four numbers as they are asked for, in their limits or not.
+    pub fn asked(block: u32, useful: u32, blocks: u32, tags: u32) -> Settings
+        ensures { λ r. ⌜ r ≡ settingsOf block useful blocks tags ⌝ }
+    {
+        Settings {
+            block,
+            useful,
+            blocks,
+            tags,
+        }
+    }
 
     // The settings, if each is within its limits.
     pub fn new(block: u32, useful: u32, blocks: u32, tags: u32) -> SettingsAnswer

@@ -9,10 +9,7 @@ pub const MARK: u32 = 7001;
 
 pub const HEAD_LEN: usize = 16;
 
-// a page is 16 words inside its level
-pub const PAGE_LEN: usize = 16;
-
-// as many entries: a level of the index has the first of each so many of the level below
+// a page is 16 words inside its level, and a level of the index has the first of each 16 entries of the level below
 pub const PAGE: u32 = 16;
 
 // the first words of a block: seconds, links and standing bits

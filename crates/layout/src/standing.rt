@@ -31,8 +31,8 @@ fn weight(k: u32) -> u32
     1u32 << k
 }
 
-// A word with bit k made 1.
-fn bit_on(x: u32, k: u32) -> u32
+// A word of standing bits with bit k made 1.
+pub fn bit_on(x: u32, k: u32) -> u32
     requires { ⌜ k < 32 ⌝ }
     ensures { λ r. ⌜ r ≡ withBit k x ⌝ }
 {
@@ -42,8 +42,8 @@ fn bit_on(x: u32, k: u32) -> u32
     x + weight(k)
 }
 
-// A word with bit k made 0.
-fn bit_off(x: u32, k: u32) -> u32
+// A word of standing bits with bit k made 0.
+pub fn bit_off(x: u32, k: u32) -> u32
     requires { ⌜ k < 32 ⌝ }
     ensures { λ r. ⌜ r ≡ withoutBit k x ⌝ }
 {
@@ -64,11 +64,14 @@ fn lower_off(x: u32) -> u32
 }
 
 impl Standing {
+    // What the first bit of the high word weighs: 2 ^ 32.
+    const HIGH_WEIGHT: u64 = 4294967296;
+
     // How many slots stand: the ones of both words, counted as one word of 64 bits.
     pub fn count(self) -> u32
         ensures { λ r. ⌜ r ≡ length (slots self) ⌝ }
     {
-        u64::count_ones(self.high as u64 * 4294967296 + self.low as u64)
+        u64::count_ones(self.high as u64 * Self::HIGH_WEIGHT + self.low as u64)
     }
 
     // Slot k stands.

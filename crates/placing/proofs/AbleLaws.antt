@@ -1,24 +1,24 @@
 -- What a program that may run on the words tells of the blocks, slots and tags that it meets.
-use mathlib.Core.Path.{refl, subst}
+use mathlib.Core.Path.{_≡_, refl, sym, ap, subst}
 use mathlib.Core.Logic.{_≢_}
 use mathlib.Core.List.{List}
-use Prim.Native.Nat.{ℕ, _+_, _*_, _-_, _≤_, _<_}
-use native.Mathlib.Omega.{arith}
-use native.Mathlib.Nat.{mul-le-mul}
+use Prim.Native.Nat.{ℕ, _+_, _≤_, _<_}
 use borrow.Author.Tests.{ne-eqb}
 use Rattle.layout.specs.declared.settings.Settings.{Settings}
 use Rattle.layout.specs.declared.head.Cursor.{Cursor}
 use Rattle.layout.specs.declared.address.Address.{Address}
-use Rattle.layout.specs.declared.address.Address.the-variants.{Dir, Field, Slot}
+use Rattle.layout.specs.declared.address.Address.the-variants.{Dir, Field, Bits, Slot}
+use Rattle.layout.specs.declared.standing.Standing.{Standing}
 use Rattle.layout.specs.Fields.{upWord, rightWord, childWord, closedWord, tagWord, toWord}
 use Rattle.layout.specs.Address.{Valid, Numbered}
+use Rattle.layout.specs.Spot.{Spot}
+use Rattle.layout.specs.Standing.{slots, blockBits}
 use Rattle.layout.specs.Program.{Prog, bind, get!, set!, run}
 use Rattle.layout.specs.ProgramLaws.{refine}
 use Rattle.layout.specs.Ran.{Ran}
 use Rattle.layout.specs.OnWords.{over, Held}
 use Rattle.layout.specs.Able.{Able, able-held, able-first, able-next, able-passed, able-get, able-set, able-wipe}
-use Rattle.calls.specs.Placing.{openBlock, unlink, endRecord, putRecord}
-use Rattle.places.specs.Spot.{Spot}
+use Rattle.calls.specs.Placing.{openBlock, unlink, endRecord, standing, putRecord}
 use Rattle.placing.specs.Steps.{Listed}
 
 -- ---- a program that may run does run, and what comes after it may run
@@ -38,6 +38,16 @@ writes a x = (able-set a (able-first x), able-held x)
 
 pub writes-last : {s : Settings} (a : Address) {v : ℕ} {ws : List ℕ} → Able s (set! a v) ws → Valid s a × Held s ws
 writes-last a x = (able-set a x, able-held x)
+
+-- the standing slots of block n are read
+pub asks-standing : {A : Type 0} {s : Settings} {n : ℕ} {k : List ℕ → Prog A} {ws : List ℕ} → Able s (bind (standing n) k) ws → Numbered s n × Held s ws
+unfolding standing
+asks-standing {n = n} x = (able-get (Bits n 0) (able-first (able-first x)) .0, able-held x)
+
+pub ran-standing : {A : Type 0} {s : Settings} (n : ℕ) {k : List ℕ → Prog A} {b : Standing} {ws : List ℕ} → Able s (bind (standing n) k) ws
+    → b ≡ blockBits (over s .read ws) n → Ran (over s) (standing n) ws (slots b) ws
+unfolding standing
+ran-standing n x e = record { value = ap slots (sym e); words = refl; good = x .agree .good }
 
 -- the store that a run left
 pub held-after : {A B : Type 0} {s : Settings} {p : Prog A} {q : Prog B} {us ws ws′ : List ℕ} {x : B} → Able s p us → Ran (over s) q ws x ws′ → Held s ws′

@@ -5,48 +5,55 @@ use mathlib.Core.List.{List}
 use Prim.Native.Nat.{ℕ, _<_}
 use native.Mathlib.Omega.{arith}
 use lib.ListN.{length}
-use Rattle.layout.specs.declared.settings.Settings.{Settings}
 use Rattle.layout.specs.declared.head.Cursor.{Cursor}
+use Rattle.layout.specs.declared.head.Head.{Head}
 use Rattle.layout.specs.declared.standing.Standing.{Standing}
 use Rattle.layout.specs.Program.{Prog, bind, each}
 use Rattle.layout.specs.Standing.{slots, firstSlot, otherSlots}
 use Rattle.layout.specs.StandingLaws.{none, TwoWords, slots-empty, slots-next, other-fewer, other-words}
-use Rattle.layout.specs.Ran.{Ran, Left, begin, turn, end, likewise, each-more, each-end, ran-length}
+use Rattle.layout.specs.Ran.{Left, begin, turn, end, likewise, each-more, each-end, ran-length}
+use Rattle.layout.specs.Head.{onward}
+use Rattle.layout.specs.Moved.{Moved}
 use Rattle.layout.specs.OnWords.{over}
 use Rattle.layout.specs.Able.{Able, able-first, able-next, able-likewise}
 
--- the slots that are left, done from these words and this cursor, give what all of them gave from the start; and they may be done
-pub record Going (s : Settings) (body : ℕ → Cursor → Prog Cursor) (ws₀ : List ℕ) (c₀ : Cursor) (left₀ : Standing) (ws : List ℕ) (c : Cursor) (left : Standing) : Type 0 where
-  pub rest : Left (over s) (each body (slots left₀) c₀) ws₀ (each body (slots left) c) ws
-  pub able : Able s (each body (slots left) c) ws
+-- the slots that are left, done from these words and this head, give what all of them gave from the start; and they may be done
+pub record Going (body : ℕ → Cursor → Prog Cursor) (ws₀ : List ℕ) (h₀ : Head) (left₀ : Standing) (ws : List ℕ) (h : Head) (left : Standing) : Type 0 where
+  pub rest : Left (over (h₀ .settings)) (each body (slots left₀) (h₀ .cursor)) ws₀ (each body (slots left) (h .cursor)) ws
+  pub able : Able (h₀ .settings) (each body (slots left) (h .cursor)) ws
+  pub settings : h .settings ≡ h₀ .settings
   pub words : TwoWords left
   pub long : length ws ≡ length ws₀
 
-pub going : {s : Settings} {body : ℕ → Cursor → Prog Cursor} {ws : List ℕ} {c : Cursor} {left : Standing}
-    → Able s (each body (slots left) c) ws → TwoWords left → Going s body ws c left ws c left
-going a w = record { rest = begin; able = a; words = w; long = refl }
+pub going : {body : ℕ → Cursor → Prog Cursor} {ws : List ℕ} {h : Head} {left : Standing}
+    → Able (h .settings) (each body (slots left) (h .cursor)) ws → TwoWords left → Going body ws h left ws h left
+going a w = record { rest = begin; able = a; settings = refl; words = w; long = refl }
 
-module _ {s : Settings} {body : ℕ → Cursor → Prog Cursor} {ws₀ ws : List ℕ} {c₀ c : Cursor} {left₀ left : Standing} (g : Going s body ws₀ c₀ left₀ ws c left) where
+module _ {body : ℕ → Cursor → Prog Cursor} {ws₀ ws : List ℕ} {h₀ h : Head} {left₀ left : Standing} (g : Going body ws₀ h₀ left₀ ws h left) where
   -- no slot is left: the loop has run
-  pub going-end : none left ≡ true → Ran (over s) (each body (slots left₀) c₀) ws₀ c ws
-  going-end e = end (likewise (each-end body (slots left) c (slots-empty left e)) (g .rest)) (g .able .agree .good)
+  pub going-end : none left ≡ true → Moved h₀ (each body (slots left₀) (h₀ .cursor)) ws₀ h ws
+  going-end e = record {
+    ran = end (likewise (each-end body (slots left) (h .cursor) (slots-empty left e)) (g .rest)) (g .able .agree .good);
+    settings = g .settings;
+  }
 
   module _ {k : ℕ} (e : none left ≡ false) (f : k ≡ firstSlot left) where
-    next : each body (slots left) c ≡ bind (body k c) (λ d. each body (slots (otherSlots left)) d)
-    next = each-more body (slots left) k (slots (otherSlots left)) c (rw f (slots-next left (g .words) e))
+    next : each body (slots left) (h .cursor) ≡ bind (body k (h .cursor)) (λ d. each body (slots (otherSlots left)) d)
+    next = each-more body (slots left) k (slots (otherSlots left)) (h .cursor) (rw f (slots-next left (g .words) e))
 
     -- else the next turn may run,
-    pub going-able : Able s (body k c) ws
+    pub going-able : Able (h₀ .settings) (body k (h .cursor)) ws
     going-able = able-first (able-likewise next (g .able))
 
     -- and after it the others are left
-    pub going-on : {ws′ : List ℕ} {c′ : Cursor} {left′ : Standing} → left′ ≡ otherSlots left → Ran (over s) (body k c) ws c′ ws′
-        → Going s body ws₀ c₀ left₀ ws′ c′ left′
-    going-on o r = rw o record {
-      rest = turn (likewise next (g .rest)) r;
-      able = able-next (able-likewise next (g .able)) r;
+    pub going-on : {ws′ : List ℕ} {h′ : Head} {left′ : Standing} → left′ ≡ otherSlots left
+        → Moved (onward h₀ (h .cursor)) (body k (h .cursor)) ws h′ ws′ → Going body ws₀ h₀ left₀ ws′ h′ left′
+    going-on o m = rw o record {
+      rest = turn (likewise next (g .rest)) (m .ran);
+      able = able-next (able-likewise next (g .able)) (m .ran);
+      settings = m .settings;
       words = other-words left (g .words);
-      long = ran-length r ∙ g .long;
+      long = ran-length (m .ran) ∙ g .long;
     }
 
   -- they are fewer

@@ -4,15 +4,14 @@ use layout::PAGE;
 use layout::address;
 use layout::address::Address;
 use layout::fields;
-use layout::head::Cursor;
+use layout::head::Head;
 use layout::settings::Settings;
-use layout::standing::Standing;
 ghost use Prim.Native.Nat.{_<_};
 ghost use Rattle.layout.specs.Ran.{Ran};
+ghost use Rattle.layout.specs.Moved.{Moved};
 ghost use Rattle.layout.specs.Able.{Able};
 ghost use Rattle.layout.specs.OnWords.{over};
-ghost use Rattle.layout.specs.Standing.{slots};
-ghost use Rattle.calls.specs.Placing.{enterTime, openBlock, unlink, standing};
+ghost use Rattle.calls.specs.Placing.{enterTime, openBlock, unlink};
 ghost use Rattle.placing.specs.Steps.{enterFirst};
 
 // The opening second of block i + 1 goes to a level of the index that has the first time of each `every`, if block i + 1 is such a first.
@@ -38,11 +37,12 @@ fn enter_time(store: &mut [u32], s: Settings, i: u32, second: u32)
 }
 
 // Block N + 1 opens at `second`, empty, to the right of block N (block 0 if N is 0).
-pub(crate) fn open_block(store: &mut [u32], s: Settings, c: Cursor, second: u32) -> Cursor
-    requires { ⌜ Able s (openBlock c second) (now store) ⌝ }
-    ensures { λ r. ⌜ Ran (over s) (openBlock c second) (now (store .entry)) r (now (store .exit)) ⌝ }
+pub(crate) fn open_block(store: &mut [u32], h: Head, second: u32) -> Head
+    requires { ⌜ Able (h .settings) (openBlock (h .cursor) second) (now store) ⌝ }
+    ensures { λ r. ⌜ Moved h (openBlock (h .cursor) second) (now (store .entry)) r (now (store .exit)) ⌝ }
 {
-    let last = c.opened;
+    let s = h.settings;
+    let last = h.cursor.opened;
     let next = last + 1;
     enter_time(store, s, last, second);
     address::wipe(store, s, next);
@@ -50,38 +50,29 @@ pub(crate) fn open_block(store: &mut [u32], s: Settings, c: Cursor, second: u32)
     address::write(store, s, Address::Field(next, fields::CLOSED), OPEN);
     address::write(store, s, Address::Field(next, fields::UP), last);
     if last == 0 {
-        return c.grown(next);
+        return h.grown(next);
     }
     address::write(store, s, Address::Field(last, fields::RIGHT), next);
-    c.grown(c.right)
+    h.grown(h.cursor.right)
 }
 
 // Block x closes at `second` and leaves the row of open blocks; its up, block P, takes it as its last child.
-pub(crate) fn unlink(store: &mut [u32], s: Settings, c: Cursor, x: u32, second: u32) -> Cursor
-    requires { ⌜ Able s (unlink c x second) (now store) ⌝ }
-    ensures { λ r. ⌜ Ran (over s) (unlink c x second) (now (store .entry)) r (now (store .exit)) ⌝ }
+pub(crate) fn unlink(store: &mut [u32], h: Head, x: u32, second: u32) -> Head
+    requires { ⌜ Able (h .settings) (unlink (h .cursor) x second) (now store) ⌝ }
+    ensures { λ r. ⌜ Moved h (unlink (h .cursor) x second) (now (store .entry)) r (now (store .exit)) ⌝ }
 {
+    let s = h.settings;
     let up = address::read(store, s, Address::Field(x, fields::UP));
     let right = address::read(store, s, Address::Field(x, fields::RIGHT));
     address::write(store, s, Address::Field(x, fields::CLOSED), second);
     address::write(store, s, Address::Field(right, fields::UP), up);
     if up == 0 {
-        address::write(store, s, Address::Field(x, fields::LEFT), c.child);
-        return c.relinked(x, right);
+        address::write(store, s, Address::Field(x, fields::LEFT), h.cursor.child);
+        return h.relinked(x, right);
     }
     let child = address::read(store, s, Address::Field(up, fields::CHILD));
     address::write(store, s, Address::Field(up, fields::RIGHT), right);
     address::write(store, s, Address::Field(x, fields::LEFT), child);
     address::write(store, s, Address::Field(up, fields::CHILD), x);
-    c
-}
-
-// The standing slots of block n.
-pub(crate) fn standing(store: &[u32], s: Settings, n: u32) -> Standing
-    requires { ⌜ Able s (standing n) (now store) ⌝ }
-    ensures { λ r. ⌜ Ran (over s) (standing n) (now (store .entry)) (slots r) (now (store .entry)) ⌝ }
-{
-    let low = address::read(store, s, Address::Bits(n, fields::LOW));
-    let high = address::read(store, s, Address::Bits(n, fields::HIGH));
-    Standing { low, high }
+    h
 }

@@ -1,55 +1,41 @@
 // Blocks are judged: one with fewer than q standing closes, and its standing records are placed again. Room for a record is made so, too.
 use crate::blocks;
 use crate::records;
-use layout::head::Cursor;
+use layout::address;
+use layout::head::Head;
 use layout::settings::Settings;
 use layout::standing::Standing;
 ghost use mathlib.Core.Path.{_≡_};
 ghost use lib.Dec.{ltb};
 ghost use lib.ListN.{length};
-ghost use Rattle.layout.specs.Ran.{Ran};
+ghost use Rattle.layout.specs.Moved.{Moved};
 ghost use Rattle.layout.specs.Able.{Able};
 ghost use Rattle.layout.specs.Program.{each};
-ghost use Rattle.layout.specs.OnWords.{over};
 ghost use Rattle.layout.specs.Standing.{slots};
 ghost use Rattle.calls.specs.Placing.{moveRecord, closeFull, judgeFull, roll, makeRoom, place, replace, close, judge};
 
 // The records of these slots of block x move, in slot order, to an acceptor that has room for all of them.
-fn move_all(
-    store: &mut [u32],
-    s: Settings,
-    c: Cursor,
-    x: u32,
-    second: u32,
-    bits: Standing,
-) -> Cursor
-    requires { ⌜ Able s (each (moveRecord s x second) (slots bits) c) (now store) ⌝ }
-    ensures { λ r. ⌜ Ran (over s) (each (moveRecord s x second) (slots bits) c) (now (store .entry)) r (now (store .exit)) ⌝ }
+fn move_all(store: &mut [u32], h: Head, x: u32, second: u32, bits: Standing) -> Head
+    requires { ⌜ Able (h .settings) (each (moveRecord (h .settings) x second) (slots bits) (h .cursor)) (now store) ⌝ }
+    ensures { λ r. ⌜ Moved h (each (moveRecord (h .settings) x second) (slots bits) (h .cursor)) (now (store .entry)) r (now (store .exit)) ⌝ }
 {
-    let mut cursor = c;
+    let mut head = h;
     let mut left = bits;
     while !left.is_empty() {
         let k = left.first();
-        cursor = records::move_record(store, s, cursor, x, k, second);
+        head = records::move_record(store, head, x, k, second);
         left = left.rest();
     }
-    cursor
+    head
 }
 
 // The old acceptor x closes, and its copies go into the new block.
-fn close_full(
-    store: &mut [u32],
-    s: Settings,
-    c: Cursor,
-    x: u32,
-    second: u32,
-    bits: Standing,
-) -> Cursor
-    requires { ⌜ Able s (closeFull s c x second (slots bits)) (now store) ⌝ }
-    ensures { λ r. ⌜ Ran (over s) (closeFull s c x second (slots bits)) (now (store .entry)) r (now (store .exit)) ⌝ }
+fn close_full(store: &mut [u32], h: Head, x: u32, second: u32, bits: Standing) -> Head
+    requires { ⌜ Able (h .settings) (closeFull (h .settings) (h .cursor) x second (slots bits)) (now store) ⌝ }
+    ensures { λ r. ⌜ Moved h (closeFull (h .settings) (h .cursor) x second (slots bits)) (now (store .entry)) r (now (store .exit)) ⌝ }
 {
-    let d = blocks::unlink(store, s, c, x, second);
-    move_all(store, s, d, x, second, bits)
+    let unlinked = blocks::unlink(store, h, x, second);
+    move_all(store, unlinked, x, second, bits)
 }
 
 // Judged: with fewer than q standing, a block closes. How many stand is the number of ones in its two words.
@@ -60,108 +46,96 @@ fn too_few(s: Settings, bits: Standing) -> bool
 }
 
 // The old acceptor x is judged. Its copies are fewer than q, so the new block has room for them.
-fn judge_full(store: &mut [u32], s: Settings, c: Cursor, x: u32, second: u32) -> Cursor
-    requires { ⌜ Able s (judgeFull s c x second) (now store) ⌝ }
-    ensures { λ r. ⌜ Ran (over s) (judgeFull s c x second) (now (store .entry)) r (now (store .exit)) ⌝ }
+fn judge_full(store: &mut [u32], h: Head, x: u32, second: u32) -> Head
+    requires { ⌜ Able (h .settings) (judgeFull (h .settings) (h .cursor) x second) (now store) ⌝ }
+    ensures { λ r. ⌜ Moved h (judgeFull (h .settings) (h .cursor) x second) (now (store .entry)) r (now (store .exit)) ⌝ }
 {
-    let bits = blocks::standing(store, s, x);
+    let s = h.settings;
+    let bits = address::standing(store, s, x);
     if too_few(s, bits) {
-        return close_full(store, s, c, x, second, bits);
+        return close_full(store, h, x, second, bits);
     }
-    c
+    h
 }
 
 // Block N + 1 opens, then block N, if any, is judged.
-fn roll(store: &mut [u32], s: Settings, c: Cursor, second: u32) -> Cursor
-    requires { ⌜ Able s (roll s c second) (now store) ⌝ }
-    ensures { λ r. ⌜ Ran (over s) (roll s c second) (now (store .entry)) r (now (store .exit)) ⌝ }
+fn roll(store: &mut [u32], h: Head, second: u32) -> Head
+    requires { ⌜ Able (h .settings) (roll (h .settings) (h .cursor) second) (now store) ⌝ }
+    ensures { λ r. ⌜ Moved h (roll (h .settings) (h .cursor) second) (now (store .entry)) r (now (store .exit)) ⌝ }
 {
-    let last = c.opened;
-    let d = blocks::open_block(store, s, c, second);
+    let last = h.cursor.opened;
+    let opened = blocks::open_block(store, h, second);
     if last == 0 {
-        return d;
+        return opened;
     }
-    judge_full(store, s, d, last, second)
+    judge_full(store, opened, last, second)
 }
 
 // Room for a record: a block opens if the acceptor is full, or N is 0.
-fn make_room(store: &mut [u32], s: Settings, c: Cursor, second: u32) -> Cursor
-    requires { ⌜ Able s (makeRoom s c second) (now store) ⌝ }
-    ensures { λ r. ⌜ Ran (over s) (makeRoom s c second) (now (store .entry)) r (now (store .exit)) ⌝ }
+fn make_room(store: &mut [u32], h: Head, second: u32) -> Head
+    requires { ⌜ Able (h .settings) (makeRoom (h .settings) (h .cursor) second) (now store) ⌝ }
+    ensures { λ r. ⌜ Moved h (makeRoom (h .settings) (h .cursor) second) (now (store .entry)) r (now (store .exit)) ⌝ }
 {
-    if c.opened == 0 {
-        return roll(store, s, c, second);
+    if h.cursor.opened == 0 {
+        return roll(store, h, second);
     }
-    if c.fill == s.block {
-        return roll(store, s, c, second);
+    if h.cursor.fill == h.settings.block {
+        return roll(store, h, second);
     }
-    c
+    h
 }
 
 // A record is placed, where there is room or after room is made.
-pub(crate) fn place(
-    store: &mut [u32],
-    s: Settings,
-    c: Cursor,
-    second: u32,
-    tag: u32,
-    reading: u32,
-) -> Cursor
-    requires { ⌜ Able s (place s c second tag reading) (now store) ⌝ }
-    ensures { λ r. ⌜ Ran (over s) (place s c second tag reading) (now (store .entry)) r (now (store .exit)) ⌝ }
+pub(crate) fn place(store: &mut [u32], h: Head, second: u32, tag: u32, reading: u32) -> Head
+    requires { ⌜ Able (h .settings) (place (h .settings) (h .cursor) second tag reading) (now store) ⌝ }
+    ensures { λ r. ⌜ Moved h (place (h .settings) (h .cursor) second tag reading) (now (store .entry)) r (now (store .exit)) ⌝ }
 {
-    let d = make_room(store, s, c, second);
-    records::put_record(store, s, d, second, tag, reading)
+    let with_room = make_room(store, h, second);
+    records::put_record(store, with_room, second, tag, reading)
 }
 
 // The record of slot k of block x moves to where any record goes.
-fn replace(store: &mut [u32], s: Settings, c: Cursor, x: u32, k: u32, second: u32) -> Cursor
-    requires { ⌜ Able s (replace s x second k c) (now store) ⌝ }
-    ensures { λ r. ⌜ Ran (over s) (replace s x second k c) (now (store .entry)) r (now (store .exit)) ⌝ }
+fn replace(store: &mut [u32], h: Head, x: u32, k: u32, second: u32) -> Head
+    requires { ⌜ Able (h .settings) (replace (h .settings) x second k (h .cursor)) (now store) ⌝ }
+    ensures { λ r. ⌜ Moved h (replace (h .settings) x second k (h .cursor)) (now (store .entry)) r (now (store .exit)) ⌝ }
 {
-    let d = make_room(store, s, c, second);
-    records::move_record(store, s, d, x, k, second)
+    let with_room = make_room(store, h, second);
+    records::move_record(store, with_room, x, k, second)
 }
 
 // The records of these slots of block x are placed again, in slot order.
-fn replace_all(
-    store: &mut [u32],
-    s: Settings,
-    c: Cursor,
-    x: u32,
-    second: u32,
-    bits: Standing,
-) -> Cursor
-    requires { ⌜ Able s (each (replace s x second) (slots bits) c) (now store) ⌝ }
-    ensures { λ r. ⌜ Ran (over s) (each (replace s x second) (slots bits) c) (now (store .entry)) r (now (store .exit)) ⌝ }
+fn replace_all(store: &mut [u32], h: Head, x: u32, second: u32, bits: Standing) -> Head
+    requires { ⌜ Able (h .settings) (each (replace (h .settings) x second) (slots bits) (h .cursor)) (now store) ⌝ }
+    ensures { λ r. ⌜ Moved h (each (replace (h .settings) x second) (slots bits) (h .cursor)) (now (store .entry)) r (now (store .exit)) ⌝ }
 {
-    let mut cursor = c;
+    let mut head = h;
     let mut left = bits;
     while !left.is_empty() {
         let k = left.first();
-        cursor = replace(store, s, cursor, x, k, second);
+        head = replace(store, head, x, k, second);
         left = left.rest();
     }
-    cursor
+    head
 }
 
 // Block x, which is not the acceptor, closes, and its standing records are placed again.
-fn close(store: &mut [u32], s: Settings, c: Cursor, x: u32, second: u32, bits: Standing) -> Cursor
-    requires { ⌜ Able s (close s c x second (slots bits)) (now store) ⌝ }
-    ensures { λ r. ⌜ Ran (over s) (close s c x second (slots bits)) (now (store .entry)) r (now (store .exit)) ⌝ }
+fn close(store: &mut [u32], h: Head, x: u32, second: u32, bits: Standing) -> Head
+    requires { ⌜ Able (h .settings) (close (h .settings) (h .cursor) x second (slots bits)) (now store) ⌝ }
+    ensures { λ r. ⌜ Moved h (close (h .settings) (h .cursor) x second (slots bits)) (now (store .entry)) r (now (store .exit)) ⌝ }
 {
-    let d = blocks::unlink(store, s, c, x, second);
-    replace_all(store, s, d, x, second, bits)
+    let unlinked = blocks::unlink(store, h, x, second);
+    replace_all(store, unlinked, x, second, bits)
 }
 
 // Block x, which is not the acceptor, is judged.
-pub(crate) fn judge(store: &mut [u32], s: Settings, c: Cursor, x: u32, second: u32) -> Cursor
-    requires { ⌜ Able s (judge s c x second) (now store) ⌝ }
-    ensures { λ r. ⌜ Ran (over s) (judge s c x second) (now (store .entry)) r (now (store .exit)) ⌝ }
+pub(crate) fn judge(store: &mut [u32], h: Head, x: u32, second: u32) -> Head
+    requires { ⌜ Able (h .settings) (judge (h .settings) (h .cursor) x second) (now store) ⌝ }
+    ensures { λ r. ⌜ Moved h (judge (h .settings) (h .cursor) x second) (now (store .entry)) r (now (store .exit)) ⌝ }
 {
-    let bits = blocks::standing(store, s, x);
+    let s = h.settings;
+    let bits = address::standing(store, s, x);
     if too_few(s, bits) {
-        return close(store, s, c, x, second, bits);
+        return close(store, h, x, second, bits);
     }
-    c
+    h
 }

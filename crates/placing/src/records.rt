@@ -3,34 +3,15 @@ use layout::OPEN;
 use layout::address;
 use layout::address::Address;
 use layout::fields;
-use layout::head::Cursor;
+use layout::head::Head;
+use layout::place;
 use layout::settings::Settings;
-use layout::standing::Standing;
-ghost use mathlib.Core.Path.{_≡_};
-ghost use Prim.Native.Nat.{_<_};
-ghost use Rattle.base.specs.Bits.{withBit, withoutBit};
+use layout::standing;
 ghost use Rattle.layout.specs.Ran.{Ran};
+ghost use Rattle.layout.specs.Moved.{Moved};
 ghost use Rattle.layout.specs.Able.{Able};
 ghost use Rattle.layout.specs.OnWords.{over};
 ghost use Rattle.calls.specs.Placing.{endRecord, putRecord, moveRecord};
-
-// A word of standing bits with bit k made 1.
-fn with_bit(word: u32, k: u32) -> u32
-    requires { ⌜ k < 32 ⌝ }
-    ensures { λ r. ⌜ r ≡ withBit k word ⌝ }
-{
-    let bits = Standing { low: word, high: 0 };
-    bits.with(k).low
-}
-
-// A word of standing bits with bit k made 0.
-fn without_bit(word: u32, k: u32) -> u32
-    requires { ⌜ k < 32 ⌝ }
-    ensures { λ r. ⌜ r ≡ withoutBit k word ⌝ }
-{
-    let bits = Standing { low: word, high: 0 };
-    bits.without(k).low
-}
 
 // The record of slot k of block n ends at `second`, and stands no more.
 pub(crate) fn end_record(store: &mut [u32], s: Settings, n: u32, k: u32, second: u32)
@@ -41,48 +22,46 @@ pub(crate) fn end_record(store: &mut [u32], s: Settings, n: u32, k: u32, second:
     let bit = k % 32;
     address::write(store, s, Address::Slot(n, k, fields::TO), second);
     let bits = address::read(store, s, Address::Bits(n, half));
-    address::write(store, s, Address::Bits(n, half), without_bit(bits, bit));
+    address::write(
+        store,
+        s,
+        Address::Bits(n, half),
+        standing::bit_off(bits, bit),
+    );
 }
 
 // A record goes to the acceptor's next slot, from `second` on, and the directory follows.
-pub(crate) fn put_record(
-    store: &mut [u32],
-    s: Settings,
-    c: Cursor,
-    second: u32,
-    tag: u32,
-    reading: u32,
-) -> Cursor
-    requires { ⌜ Able s (putRecord s c second tag reading) (now store) ⌝ }
-    ensures { λ r. ⌜ Ran (over s) (putRecord s c second tag reading) (now (store .entry)) r (now (store .exit)) ⌝ }
+pub(crate) fn put_record(store: &mut [u32], h: Head, second: u32, tag: u32, reading: u32) -> Head
+    requires { ⌜ Able (h .settings) (putRecord (h .settings) (h .cursor) second tag reading) (now store) ⌝ }
+    ensures { λ r. ⌜ Moved h (putRecord (h .settings) (h .cursor) second tag reading) (now (store .entry)) r (now (store .exit)) ⌝ }
 {
-    let n = c.opened;
-    let k = c.fill;
-    let place = places::place_of(s, n, k);
+    let s = h.settings;
+    let n = h.cursor.opened;
+    let k = h.cursor.fill;
+    let place = place::place_of(s, n, k);
     address::write(store, s, Address::Slot(n, k, fields::TAG), tag);
     address::write(store, s, Address::Slot(n, k, fields::READING), reading);
     address::write(store, s, Address::Slot(n, k, fields::FROM), second);
     address::write(store, s, Address::Slot(n, k, fields::TO), OPEN);
     let bits = address::read(store, s, Address::Bits(n, k / 32));
-    address::write(store, s, Address::Bits(n, k / 32), with_bit(bits, k % 32));
+    address::write(
+        store,
+        s,
+        Address::Bits(n, k / 32),
+        standing::bit_on(bits, k % 32),
+    );
     address::write(store, s, Address::Dir(tag), place);
-    c.filled()
+    h.filled()
 }
 
 // The standing record of slot k of block x ends at `second` and is placed again, from then on, in an acceptor that has room.
-pub(crate) fn move_record(
-    store: &mut [u32],
-    s: Settings,
-    c: Cursor,
-    x: u32,
-    k: u32,
-    second: u32,
-) -> Cursor
-    requires { ⌜ Able s (moveRecord s x second k c) (now store) ⌝ }
-    ensures { λ r. ⌜ Ran (over s) (moveRecord s x second k c) (now (store .entry)) r (now (store .exit)) ⌝ }
+pub(crate) fn move_record(store: &mut [u32], h: Head, x: u32, k: u32, second: u32) -> Head
+    requires { ⌜ Able (h .settings) (moveRecord (h .settings) x second k (h .cursor)) (now store) ⌝ }
+    ensures { λ r. ⌜ Moved h (moveRecord (h .settings) x second k (h .cursor)) (now (store .entry)) r (now (store .exit)) ⌝ }
 {
+    let s = h.settings;
     let tag = address::read(store, s, Address::Slot(x, k, fields::TAG));
     let reading = address::read(store, s, Address::Slot(x, k, fields::READING));
     end_record(store, s, x, k, second);
-    put_record(store, s, c, second, tag, reading)
+    put_record(store, h, second, tag, reading)
 }

@@ -1,46 +1,54 @@
 -- From what the calls in code answer to what a caller by numbers is told.
-use mathlib.Core.Path.{_≡_, refl, sym, ap, _∙_}
-use mathlib.Core.List.{List}
+use mathlib.Core.Path.{_≡_, refl, sym, ap, ap₂, _∙_}
+use mathlib.Core.Bool.{Bool, true, false}
+use mathlib.Core.List.{List, [], _∷_}
 use Prim.Native.Nat.{ℕ}
-use native.Mathlib.Omega.{arith}
 use lib.Seq.{sets}
-use Rattle.calls.specs.Calls.{Answer, Done, Shown, Refused, Reply}
-use Rattle.calls.specs.Step.{lookBack}
+use Rattle.layout.specs.declared.settings.Settings.{Settings}
+use Rattle.layout.specs.Settings.{inLimits, Within}
+use Rattle.layout.specs.SettingsLaws.{limits-within, StoreLong}
+use Rattle.calls.specs.Calls.{Answer, Reply}
+use Rattle.calls.specs.LookBack.{lookBack}
 use Rattle.changes.specs.declared.Change.{Change}
 use Rattle.changes.specs.Replied.{Replied, answerOf}
 use Rattle.timeslice.specs.declared.Slice.{Slice}
 use Rattle.timeslice.specs.declared.Looked.{Looked}
 use Rattle.timeslice.specs.declared.Looked.the-variants as looked
-use Rattle.timeslice.specs.Answer.{sliceOf, LookedBack}
-use Rattle.timeslice.specs.Answer as back
-use Rattle.register.specs.Exports.{numberOf, sixWords, sixAfter, Told, ToldBack}
+use Rattle.timeslice.specs.Answer.{Says, view, number, LookedBack}
+use Rattle.register.specs.Exports.{numberOf, sixWords, sixAfter, Exported, ExportedLookBack, wordsFor}
 
 -- ---- a start, change or clock move
-pub told : {r : Reply} {c : Change} {n : ℕ} {words : List ℕ} → Replied r c words → n ≡ numberOf (answerOf c) → Told r n words
-told e f = record { number = f ∙ ap numberOf (e .answer); store = e .store }
+pub exported : {r : Reply} {c : Change} {n : ℕ} {words : List ℕ} → Replied r c words → n ≡ numberOf (answerOf c) → Exported r n words
+exported e f = record { number = f ∙ ap numberOf (e .answer); store = e .store }
 
 -- ---- a look-back: refused, or answered with six words
-refused-six : (a : Answer) {n : ℕ} (six : List ℕ) → looked.Refused n ≡ back.answerOf a → (n ≡ numberOf a) × (six ≡ sixAfter a six)
-refused-six (Done h) six e = (cc, refl)
-refused-six (Shown v) six e = let z : _≡_ {A = ℕ} 0 1 = cc in absurd (omega arith)
-refused-six (Refused m) six e = (cc, refl)
-
-answered-six : (a : Answer) {s : Slice} (six : List ℕ) → looked.Answered s ≡ back.answerOf a
-    → (0 ≡ numberOf a) × (sets six 0 (sixWords s) ≡ sixAfter a six)
-answered-six (Done h) six e = let z : _≡_ {A = ℕ} 0 1 = cc in absurd (omega arith)
-answered-six (Shown v) {s} six e =
-    let f : s ≡ sliceOf v = cc in
-    (refl, ap (λ (x : Slice). sets six 0 (sixWords x)) f)
-answered-six (Refused m) six e = let z : _≡_ {A = ℕ} 0 1 = cc in absurd (omega arith)
-
 module _ {ws rows list rows′ list′ : List ℕ} {t : ℕ} {l : Looked} (b : LookedBack ws t rows list l rows′ list′) (six : List ℕ) where
-  pub refused-back : {n : ℕ} → l ≡ looked.Refused n → ToldBack (lookBack ws t rows list) n ws rows′ list′ six six
-  refused-back e =
-      let p = refused-six (lookBack ws t rows list .answer) six (sym e ∙ b .answer) in
-      record { number = p .0; store = b .store-words; row-words = b .row-words; list-words = b .list-words; six-words = p .1 }
+  -- what is told of an answer, and the six words after it
+  abbrev told-so : Answer → ℕ → List ℕ → Type 0
+  told-so a n six′ = (n ≡ numberOf a) × (six′ ≡ sixAfter a six)
 
-  pub answered-back : {s : Slice} {six′ : List ℕ} → l ≡ looked.Answered s → six′ ≡ sets six 0 (sixWords s)
-      → ToldBack (lookBack ws t rows list) 0 ws rows′ list′ six six′
-  answered-back e f =
-      let p = answered-six (lookBack ws t rows list .answer) six (sym e ∙ b .answer) in
-      record { number = p .0; store = b .store-words; row-words = b .row-words; list-words = b .list-words; six-words = f ∙ p .1 }
+  told-back : {n : ℕ} {six′ : List ℕ} → told-so (lookBack ws t rows list .answer) n six′ → ExportedLookBack ws t rows list six n rows′ list′ six′
+  told-back p = record { number = p .0; buffers = ap₂ (λ (x y : List ℕ). x ∷ y ∷ []) (b .row-words) (b .list-words); six-words = p .1 }
+
+  refused-so : {a : Answer} {n : ℕ} → Says a (looked.Refused n) → told-so a n six
+  refused-so number = (refl, refl)
+
+  answered-so : {a : Answer} {s : Slice} → Says a (looked.Answered s) → told-so a 0 (sets six 0 (sixWords s))
+  answered-so (view e) = (refl, ap (λ (x : Slice). sets six 0 (sixWords x)) e)
+
+  pub refused-back : {n : ℕ} → l ≡ looked.Refused n → ExportedLookBack ws t rows list six n rows′ list′ six
+  refused-back e = told-back (refused-so (rw e at (b .answer)))
+
+  pub answered-back : {s : Slice} {six′ : List ℕ} → l ≡ looked.Answered s → six′ ≡ sets six 0 (sixWords s) → ExportedLookBack ws t rows list six 0 rows′ list′ six′
+  answered-back e f = let p = answered-so (rw e at (b .answer)) in told-back (p .0, f ∙ p .1)
+
+-- ---- how many words a store takes, for settings as they are asked for
+pub words-within : {a : Settings} {b : Bool} → b ≡ inLimits a → b ≡ true → Within a
+words-within {a} e f = limits-within a (sym e ∙ f)
+
+module _ {a s : Settings} (as-asked : a ≡ s) where
+  pub words-taken : {b : Bool} {n : ℕ} → b ≡ inLimits a → b ≡ true → StoreLong a n → n ≡ wordsFor s
+  words-taken e f l = let g : inLimits a ≡ true = sym e ∙ f in rw (← as-asked, g) (l .is)
+
+  pub words-none : {b : Bool} → b ≡ inLimits a → b ≡ false → 0 ≡ wordsFor s
+  words-none e f = let g : inLimits a ≡ false = sym e ∙ f in rw (← as-asked, g)

@@ -1,11 +1,18 @@
 -- WHAT A CALLER IN C OR RUST IS TOLD: 0 for an accepted call, else the refusal's number, and all lent words as the definition leaves them.
 use mathlib.Core.Path.{_≡_}
+use mathlib.Core.Bool.{cond}
 use mathlib.Core.List.{List, [], _∷_}
 use Prim.Native.Nat.{ℕ}
 use lib.Seq.{sets}
-use Rattle.calls.specs.Calls.{Answer, Done, Shown, Refused, Reply}
+use Rattle.layout.specs.declared.settings.Settings.{Settings}
+use Rattle.layout.specs.Sizes.{layoutLen}
+use Rattle.layout.specs.Settings.{inLimits}
+use Rattle.calls.specs.Calls.{Ask, LookBack, Answer, Done, Shown, Refused, Reply}
+use Rattle.calls.specs.Step.{step}
 use Rattle.timeslice.specs.declared.Slice.{Slice}
 use Rattle.timeslice.specs.Answer.{sliceOf}
+use Rattle.applying.specs.declared.journal.Tally.{Tally}
+use Rattle.applying.specs.Journal.{Replayed}
 
 abbrev pub numberOf : Answer → ℕ
 numberOf (Done h) = 0
@@ -13,7 +20,7 @@ numberOf (Shown v) = 0
 numberOf (Refused n) = n
 
 -- a start, change or clock move
-pub record Told (r : Reply) (n : ℕ) (words : List ℕ) : Type 0 where
+pub record Exported (r : Reply) (n : ℕ) (words : List ℕ) : Type 0 where
   pub number : n ≡ numberOf (r .answer)
   pub store : words ≡ r .store
 
@@ -27,10 +34,18 @@ sixAfter (Done h) six = six
 sixAfter (Shown v) six = sets six 0 (sixWords (sliceOf v))
 sixAfter (Refused n) six = six
 
--- a look-back, which only reads the store
-pub record ToldBack (r : Reply) (n : ℕ) (words rows list six six′ : List ℕ) : Type 0 where
-  pub number : n ≡ numberOf (r .answer)
-  pub store : words ≡ r .store
-  pub row-words : rows ≡ r .rows
-  pub list-words : list ≡ r .list
-  pub six-words : six′ ≡ sixAfter (r .answer) six
+-- a look-back: its number, its two buffers and the six words; the store is lent to be read only
+pub record ExportedLookBack (ws : List ℕ) (t : ℕ) (rows list six : List ℕ) (n : ℕ) (rows′ list′ six′ : List ℕ) : Type 0 where
+  pub number : n ≡ numberOf (step ws (Ask (LookBack t rows list)) .answer)
+  pub buffers : rows′ ∷ list′ ∷ [] ≡ step ws (Ask (LookBack t rows list)) .lent
+  pub six-words : six′ ≡ sixAfter (step ws (Ask (LookBack t rows list)) .answer) six
+
+-- the words that a store takes, 0 for settings that a start refuses
+abbrev pub wordsFor : Settings → ℕ
+wordsFor s = cond (inLimits s) (layoutLen s) 0
+
+-- a replay: what is true of the replay itself, and its two numbers, entries read and entries accepted
+pub record ExportedReplay (ws journal two ws′ two′ : List ℕ) : Type 0 where
+  pub tally : Tally
+  pub replayed : Replayed ws journal tally ws′
+  pub numbers : two′ ≡ sets two 0 (tally .entries ∷ tally .accepted ∷ [])

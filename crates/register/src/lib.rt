@@ -1,19 +1,22 @@
-// THE REGISTER, the public face: any call as one value (apply), a store rebuilt from a journal (replay), and the six calls for callers in C and
-// Rust, each proved equal to its definition (calls.specs.Step).
+// THE REGISTER, the public face: any call as one value (apply), a store rebuilt from a journal (replay), and for callers in C and Rust the six
+// calls, each proved equal to its definition (calls.specs.Step), the replay, and how many words a store takes.
 pub use applying::Answer;
 pub use applying::Call;
 pub use applying::Tally;
 pub use applying::apply;
 pub use applying::replay;
 use changes::Change;
+use layout::settings::Settings;
 use timeslice::Looked;
 use timeslice::Slice;
 ghost use mathlib.Core.Path.{_≡_};
 ghost use lib.Seq.{sets};
-ghost use Rattle.calls.specs.Calls.{Start, Set, Clear, Update, Advance, LookBack};
+ghost use Rattle.layout.specs.Settings.{settingsOf};
+ghost use Rattle.calls.specs.Calls.{Start, Set, Clear, Update, Advance};
 ghost use Rattle.calls.specs.Step.{step};
 ghost use Rattle.changes.specs.Replied.{answerOf};
-ghost use Rattle.register.specs.Exports.{numberOf, sixWords, Told, ToldBack};
+ghost use Rattle.register.specs.Exports.{numberOf, sixWords, Exported, ExportedLookBack, wordsFor, ExportedReplay};
+ghost use Rattle.applying.specs.Rebuilt.{Rebuilt};
 
 // 0 for an accepted call, else the refusal's number.
 fn number(c: Change) -> u32
@@ -33,15 +36,15 @@ pub extern "C" fn register_start(
     blocks: u32,
     tags: u32,
 ) -> u32
-    ensures { λ r. ⌜ Told (step (now (store .entry)) (Start block useful blocks tags)) r (now (store .exit)) ⌝ }
+    ensures { λ r. ⌜ Exported (step (now (store .entry)) (Start (settingsOf block useful blocks tags))) r (now (store .exit)) ⌝ }
 {
-    let change = changes::start(store, block, useful, blocks, tags);
+    let change = changes::start(store, Settings::asked(block, useful, blocks, tags));
     number(change)
 }
 
 #[no_mangle]
 pub extern "C" fn register_set(store: &mut [u32], second: u32, tag: u32, reading: u32) -> u32
-    ensures { λ r. ⌜ Told (step (now (store .entry)) (Set second tag reading)) r (now (store .exit)) ⌝ }
+    ensures { λ r. ⌜ Exported (step (now (store .entry)) (Set second tag reading)) r (now (store .exit)) ⌝ }
 {
     let change = changes::set(store, second, tag, reading);
     number(change)
@@ -49,7 +52,7 @@ pub extern "C" fn register_set(store: &mut [u32], second: u32, tag: u32, reading
 
 #[no_mangle]
 pub extern "C" fn register_clear(store: &mut [u32], second: u32, tag: u32) -> u32
-    ensures { λ r. ⌜ Told (step (now (store .entry)) (Clear second tag)) r (now (store .exit)) ⌝ }
+    ensures { λ r. ⌜ Exported (step (now (store .entry)) (Clear second tag)) r (now (store .exit)) ⌝ }
 {
     let change = changes::clear(store, second, tag);
     number(change)
@@ -57,7 +60,7 @@ pub extern "C" fn register_clear(store: &mut [u32], second: u32, tag: u32) -> u3
 
 #[no_mangle]
 pub extern "C" fn register_update(store: &mut [u32], second: u32, tag: u32, reading: u32) -> u32
-    ensures { λ r. ⌜ Told (step (now (store .entry)) (Update second tag reading)) r (now (store .exit)) ⌝ }
+    ensures { λ r. ⌜ Exported (step (now (store .entry)) (Update second tag reading)) r (now (store .exit)) ⌝ }
 {
     let change = changes::update(store, second, tag, reading);
     number(change)
@@ -65,7 +68,7 @@ pub extern "C" fn register_update(store: &mut [u32], second: u32, tag: u32, read
 
 #[no_mangle]
 pub extern "C" fn register_advance(store: &mut [u32], second: u32) -> u32
-    ensures { λ r. ⌜ Told (step (now (store .entry)) (Advance second)) r (now (store .exit)) ⌝ }
+    ensures { λ r. ⌜ Exported (step (now (store .entry)) (Advance second)) r (now (store .exit)) ⌝ }
 {
     let change = changes::advance(store, second);
     number(change)
@@ -91,7 +94,7 @@ pub extern "C" fn register_look_back(
     list: &mut [u32],
     answer: &mut [u32; 6],
 ) -> u32
-    ensures { λ r. ⌜ ToldBack (step (now (store .entry)) (LookBack second (now (rows .entry)) (now (list .entry)))) r (now (store .entry)) (now (rows .exit)) (now (list .exit)) (now (answer .entry)) (now (answer .exit)) ⌝ }
+    ensures { λ r. ⌜ ExportedLookBack (now (store .entry)) second (now (rows .entry)) (now (list .entry)) (now (answer .entry)) r (now (rows .exit)) (now (list .exit)) (now (answer .exit)) ⌝ }
 {
     let looked = timeslice::look_back(store, second, rows, list);
     match looked {
@@ -101,4 +104,27 @@ pub extern "C" fn register_look_back(
             0
         }
     }
+}
+
+// The words that a store with these settings takes; 0 for settings that a start refuses.
+#[no_mangle]
+pub extern "C" fn register_words(block: u32, useful: u32, blocks: u32, tags: u32) -> usize
+    ensures { λ r. ⌜ r ≡ wordsFor (settingsOf block useful blocks tags) ⌝ }
+{
+    let asked = Settings::asked(block, useful, blocks, tags);
+    if asked.within() {
+        return asked.words();
+    }
+    0
+}
+
+// A store rebuilt from a journal: the entries read, and how many of these were accepted.
+#[no_mangle]
+pub extern "C" fn register_replay(store: &mut [u32], journal: &[u32], answer: &mut [u64; 2])
+    ensures { λ _. ⌜ ExportedReplay (now (store .entry)) (now (journal .entry)) (now (answer .entry)) (now (store .exit)) (now (answer .exit)) ⌝ }
+    ensures { λ _. ⌜ Rebuilt (now (store .entry)) (now (journal .entry)) (now (store .exit)) ⌝ }
+{
+    let tally = applying::replay(store, journal);
+    answer[0] = tally.entries as u64;
+    answer[1] = tally.accepted as u64;
 }

@@ -83,7 +83,7 @@ module _ {h : Head} (sound : SoundHead h) (f : Memory) (now : ℕ) where
       cleared-goes : (more : ℕ) → more ≤ 1 → unsoundClear h f more tag ≡ false → blocksOut h (copies h f (tagBlock h f tag) + more) ≡ false
           → Goes (h .settings) (clearTag (h .settings) (h .cursor) now tag) f (λ d g. Ready (h .settings) g more (d .opened) (d .fill))
       cleared-goes more one bad out =
-          clear-goes (h .settings) (sound .within) (h .cursor) f now tag known (sound .opened) (clearable h sound f tag d more one bad out)
+          clear-goes (h .settings) (sound .within) (h .cursor) f now tag known (sound .opened) (clearable h sound f tag d more bad one out)
 
       pub clear-call-goes : unsoundClear h f 0 tag ≡ false → blocksOut h (copies h f (tagBlock h f tag) + 0) ≡ false
           → Goes (h .settings) (clearProgram (h .settings) (h .cursor) now tag) f (λ d g. Next (h .settings) now d)

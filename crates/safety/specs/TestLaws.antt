@@ -101,9 +101,8 @@ place-lies h p sound one most =
       slot = mod-lt (p - 1) some;
     }
 
--- ---- a tag is to be cleared, with `more` records to come after the copies of its block
-module _ (h : Head) (sound : SoundHead h) (f : Memory) (tag : ℕ) (d : f (Dir tag) ≢ 0) (more : ℕ) (one : more ≤ 1)
-    (bad : unsoundClear h f more tag ≡ false) (out : blocksOut h (copies h f (tagBlock h f tag) + more) ≡ false) where
+-- ---- a tag is to be cleared, with `more` records to come after the copies of its block: what refusal 12 says when it does not apply
+module _ (h : Head) (sound : SoundHead h) (f : Memory) (tag : ℕ) (d : f (Dir tag) ≢ 0) (more : ℕ) (bad : unsoundClear h f more tag ≡ false) where
   abbrev N : ℕ
   N = h .cursor .opened
 
@@ -125,7 +124,7 @@ module _ (h : Head) (sound : SoundHead h) (f : Memory) (tag : ℕ) (d : f (Dir t
   not-block : (closes h f n && badBlock h f n) ≡ false
   not-block = or-false (badPlace h f tag) _ (tests .0) .1
 
-  good-place : (f (Dir tag) ≤ placed h) × (stands (bitsIn f n) k ≡ true)
+  pub good-place : (f (Dir tag) ≤ placed h) × (stands (bitsIn f n) k ≡ true)
   unfolding badPlace
   good-place =
       let e = or-false (badPlace h f tag) _ (tests .0) .0 in
@@ -133,18 +132,18 @@ module _ (h : Head) (sound : SoundHead h) (f : Memory) (tag : ℕ) (d : f (Dir t
       let w = or-false (ltb (placed h) (f (Dir tag))) (not (eqb (f (Slot n k tagWord)) tag)) (u .0) in
       (ltb-false (placed h) (f (Dir tag)) (w .0), not-false _ (u .1))
 
-  lies : Lies h (f (Dir tag))
+  pub lies : Lies h (f (Dir tag))
   lies = place-lies h (f (Dir tag)) sound (omega arith) (good-place .0)
 
   -- one record fewer stands where the tag's has ended
-  fewer : length (slots (lowered (bitsIn f n) k)) ≡ remaining h f n
+  pub fewer : length (slots (lowered (bitsIn f n) k)) ≡ remaining h f n
   fewer = omega (arith, lowered-fewer (bitsIn f n) k (omega (arith, lies .slot, sound .within .most)) (good-place .1))
 
   closes-few : n ≢ N → remaining h f n < q → closes h f n ≡ true
   closes-few apart few = simp (ne-eqb n N apart, lt-ltb (remaining h f n) q few)
 
-  copies-few : copies h f n + more ≤ q
-  copies-few = cond-all (λ m. m + more ≤ q) (closes h f n)
+  pub copies-few : more ≤ 1 → copies h f n + more ≤ q
+  copies-few one = cond-all (λ m. m + more ≤ q) (closes h f n)
       (λ t. omega (arith, ltb-true (remaining h f n) q (and-true (not (eqb n N)) _ t .1)))
       (λ t. omega (arith, sound .within .some))
 
@@ -154,21 +153,21 @@ module _ (h : Head) (sound : SoundHead h) (f : Memory) (tag : ℕ) (d : f (Dir t
   none-many : n ≢ N → q ≤ remaining h f n → copies h f n + more ≡ more
   none-many apart many = simp (ne-eqb n N apart, le-ltb (remaining h f n) q many) (zero-add more)
 
-  -- with the tag's record ended the acceptor's bits are those that the test looked at
-  module _ (g : Memory) (e : Ended f n k g) where
+  -- with the tag's record ended the acceptor's bits are those that the test looked at; and with refusal 13 not applying it is ready
+  module _ (one : more ≤ 1) (out : blocksOut h (copies h f n + more) ≡ false) (g : Memory) (e : Ended f n k g) where
     bits-after : bitsIn g N ≡ afterClear h f tag
     bits-after = is? n N
         (λ u. simp (eq-eqb n N u) (rw u at (e .here)))
         (λ u. simp (ne-eqb n N u) (e .elsewhere N (λ w. u (sym w))))
 
     ready-after : Ready (h .settings) g (copies h f n + more) N (h .cursor .fill)
-    ready-after = ready-for h sound f (afterClear h f tag) copies-few out (tests .1) bits-after (λ i. ended-sound e i)
+    ready-after = ready-for h sound f (afterClear h f tag) (copies-few one) out (tests .1) bits-after (λ i. ended-sound e i)
 
-  pub clearable : Clearable (h .settings) f (h .cursor) n k more
-  clearable = record {
+  pub clearable : more ≤ 1 → blocksOut h (copies h f n + more) ≡ false → Clearable (h .settings) f (h .cursor) n k more
+  clearable one out = record {
     high = lies .high;
     slot = lies .slot;
-    acceptor = λ g e u. subst (λ (m : ℕ). Ready (h .settings) g m N (h .cursor .fill)) (none-here u) (ready-after g e);
+    acceptor = λ g e u. subst (λ (m : ℕ). Ready (h .settings) g m N (h .cursor .fill)) (none-here u) (ready-after one out g e);
     closes = λ g e apart short.
         let few : remaining h f n < q = subst (λ (m : ℕ). m < q) fewer short in
         let t = closes-few apart few in
@@ -179,8 +178,8 @@ module _ (h : Head) (sound : SoundHead h) (f : Memory) (tag : ℕ) (d : f (Dir t
         record {
           sound = ended-sound e (found-sound h f n good);
           right = right;
-          ready = subst (λ (m : ℕ). Ready (h .settings) g m N (h .cursor .fill)) moved (ready-after g e);
+          ready = subst (λ (m : ℕ). Ready (h .settings) g m N (h .cursor .fill)) moved (ready-after one out g e);
         };
     stays = λ g e apart many.
-        subst (λ (m : ℕ). Ready (h .settings) g m N (h .cursor .fill)) (none-many apart (subst (λ (m : ℕ). q ≤ m) fewer many)) (ready-after g e);
+        subst (λ (m : ℕ). Ready (h .settings) g m N (h .cursor .fill)) (none-many apart (subst (λ (m : ℕ). q ≤ m) fewer many)) (ready-after one out g e);
   }

@@ -37,7 +37,7 @@ pub record Booked (s : Settings) (k : Book) (c : Cursor) (f : Memory) : Type 0 w
   pub is-book : bookOf s (shape c f) ≡ k
 
 -- ---- a fresh register
-pub booked-fresh : (s : Settings) (f : Memory) → Booked s (emptyBook (s .block) (s .useful)) (freshHead s .cursor) f
+pub booked-fresh : (s : Settings) (f : Memory) → Booked s (emptyBook s) (freshHead s .cursor) f
 booked-fresh s f = record {
   is-book = ap (λ (l : List Block). record { b = s .block; q = s .useful; blocks = l })
       (tabulate-none (λ i. blockAt (s .block) (shape (freshHead s .cursor) f) (i + 1)));

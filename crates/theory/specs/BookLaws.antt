@@ -17,11 +17,6 @@ on-before i f [] m h = absurd (omega arith)
 on-before zero f (k ∷ l) m h = refl
 on-before (suc i) f (k ∷ l) m h = ap (λ (x : List Block). k ∷ x) (on-before i f l m (omega arith))
 
-pub entries-before : (i : ℕ) (l m : List Block) → i < length l → entriesOf i (l ++ m) ≡ entriesOf i l
-entries-before i [] m h = absurd (omega arith)
-entries-before zero (k ∷ l) m h = refl
-entries-before (suc i) (k ∷ l) m h = entries-before i l m (omega arith)
-
 -- ---- the last
 pub last-is : (l : List Block) (k : Block) → lastOf (l ++ (k ∷ [])) ≡ length l
 last-is l k = rw length-append (omega arith)
@@ -48,11 +43,6 @@ pub on-beyond : (i : ℕ) (f : Block → Block) (l : List Block) → length l �
 on-beyond i f [] h = refl
 on-beyond zero f (k ∷ l) h = absurd (omega arith)
 on-beyond (suc i) f (k ∷ l) h = ap (λ (m : List Block). k ∷ m) (on-beyond i f l (omega arith))
-
-pub entries-beyond : (i : ℕ) (l : List Block) → length l ≤ i → entriesOf i l ≡ []
-entries-beyond i [] h = refl
-entries-beyond zero (k ∷ l) h = absurd (omega arith)
-entries-beyond (suc i) (k ∷ l) h = entries-beyond i l (omega arith)
 
 -- ---- how many
 pub on-length : (i : ℕ) (f : Block → Block) (l : List Block) → length (onBlock i f l) ≡ length l

@@ -13,6 +13,7 @@ use borrow.Author.Tests.{eqb-true, eqb-false, ne-eqb, eq-eqb, ltb-true}
 use Rattle.base.specs.Branch.{cond-all, is?, cmp?}
 use Rattle.base.specs.Sums.{All, nil, cons, all-append, all-map, total, totals}
 use Rattle.layout.specs.Sizes.{OPEN}
+use Rattle.layout.specs.declared.settings.Settings.{Settings}
 use Rattle.calls.specs.Book.{Entry, Block, Book, emptyBook, standingTags, ended, opensAt, onBlock, entriesOf, closesAt, lastOf, appends, inOrder}
 use Rattle.calls.specs.Book.{judges, writes, layers}
 use Rattle.calls.specs.Book.{holderOf, endsTag, endsIn, bookSet, bookClear, bookUpdate, recordsIn}
@@ -220,8 +221,8 @@ module _ {b q sets : ℕ} where
 pub record Counted (sets : ℕ) (k : Book) : Type 0 where
   pub ledger : Ledger (k .b) (k .q) sets 0 (k .blocks)
 
-pub counted-empty : (b q : ℕ) → Counted 0 (emptyBook b q)
-counted-empty b q = record { ledger = record { tidy = none; bound = omega arith } }
+pub counted-empty : (s : Settings) → Counted 0 (emptyBook s)
+counted-empty s = record { ledger = record { tidy = none; bound = omega arith } }
 
 pub counted-set : (s tag : ℕ) {sets : ℕ} {k : Book} → s ≢ OPEN → Counted sets k → Counted (sets + 1) (bookSet s tag k)
 counted-set s tag {sets} {k} d c =

@@ -1,72 +1,31 @@
 -- Every call on any words: accepted if and only if no listed refusal applies, refused by the first that does, and the lent words then as before.
 use mathlib.Core.Path.{_≡_, refl, sym, ap, _∙_}
-use mathlib.Core.Logic.{_≢_, _↔_}
-use mathlib.Core.Bool.{Bool, true, false, cond, not, _&&_, _||_}
-use mathlib.Core.List.{List, [], _∷_}
-use Prim.Native.Nat.{ℕ, zero, _<_}
+use mathlib.Core.Logic.{_↔_}
+use mathlib.Core.Bool.{Bool, true, false, cond, true≢false}
+use mathlib.Core.List.{List, [], map}
+use Prim.Native.Nat.{ℕ, zero}
 use native.Mathlib.Omega.{arith}
-use lib.Dec.{eqb, ltb}
+use lib.Dec.{eqb}
 use lib.ListN.{length}
-use borrow.Author.Tests.{eq-eqb, ne-eqb, ltb-true, ltb-false}
-use Rattle.base.specs.Branch.{by-test, and-true}
+use borrow.Author.Tests.{ne-eqb, ltb-false, not-false}
 use Rattle.base.specs.Sums.{All, nil, cons}
 use Rattle.layout.specs.declared.settings.Settings.{Settings}
 use Rattle.layout.specs.declared.head.Cursor.{Cursor}
 use Rattle.layout.specs.declared.head.Head.{Head}
 use Rattle.layout.specs.Sizes.{headLen, layoutLen}
+use Rattle.layout.specs.SettingsLaws.{limits-within}
 use Rattle.layout.specs.Head.{headOf, withHead, cleared}
 use Rattle.layout.specs.Program.{Prog}
 use Rattle.layout.specs.ProgramLaws.{run-length}
 use Rattle.layout.specs.OnWords.{over}
-use Rattle.calls.specs.Calls.{Call, Start, Set, Clear, Update, Advance, Answer, Done, Refused, accepted, Reply}
+use Rattle.calls.specs.Calls.{Call, Start, Set, Clear, Update, Advance, Ask, Answer, Done, Refused, accepted, Reply}
 use Rattle.calls.specs.Placing.{setProgram, clearProgram, updateProgram, advanceProgram}
 use Rattle.calls.specs.Refusals.{Test, refusal}
-use Rattle.calls.specs.Claims.{First, here, later, EveryCall, lentRows, lentList}
-use Rattle.theory.specs.Started.{started-length}
+use Rattle.calls.specs.Claims.{First, EveryCall, NoView, KindOf, lentBy, zeroed}
 use Rattle.calls.specs.Step.{step, testsOf, reply, change, set, clear, update, advance, start, freshHead}
-
--- ---- tables of tests whose numbers are not 0
-abbrev pub numbered : List Test → Bool
-numbered [] = true
-numbered (x ∷ l) = ltb 0 (x .number) && numbered l
-
-pub refusal-none : {l : List Test} → All (λ x. x .applies ≡ false) l → refusal l ≡ 0
-refusal-none nil = refl
-refusal-none (cons e a) = rw e (refusal-none a)
-
--- what the first refusal says of the table
-pub data Decided (l : List Test) : ℕ → Type 0 where
-  free : All (λ x. x .applies ≡ false) l → Decided l 0
-  turned : {n : ℕ} → 0 < n → First l n → Decided l n
-
-pub refused : (l : List Test) → numbered l ≡ true → Decided l (refusal l)
-refused [] k = free nil
-refused (x ∷ l) k = let a = and-true (ltb 0 (x .number)) (numbered l) k in more (ltb-true 0 (x .number) (a .0)) (refused l (a .1))
-  where
-    more : {n : ℕ} → 0 < x .number → Decided l n → Decided (x ∷ l) (cond (x .applies) (x .number) n)
-    more {n} h o = by-test (x .applies) (λ t. x .applies ≡ t → Decided (x ∷ l) (cond t (x .number) n)) (λ e q. turned h (here e)) (λ e q. on q o) refl
-      where
-        on : {n : ℕ} → x .applies ≡ false → Decided l n → Decided (x ∷ l) n
-        on e (free f) = free (cons e f)
-        on e (turned p f) = turned p (later e f)
-
--- no refusal applies, and one does: not both
-pub clash : {l : List Test} {n : ℕ} → All (λ x. x .applies ≡ false) l → First l n → ⊥
-clash (cons e a) (here f) = let z : _≡_ {A = ℕ} 0 1 = cc in omega arith
-clash (cons e a) (later f r) = clash a r
-
--- a number that no test has that may apply is never answered
-abbrev pub lacks : ℕ → List Test → Bool
-lacks m [] = true
-lacks m (x ∷ l) = (not (eqb (x .number) m) || not (x .applies)) && lacks m l
-
-pub refusal-lacks : (m : ℕ) (l : List Test) → 0 < m → lacks m l ≡ true → refusal l ≢ m
-refusal-lacks m [] p k = λ e. omega arith
-refusal-lacks m (x ∷ l) p k =
-    let a = and-true (not (eqb (x .number) m) || not (x .applies)) (lacks m l) k in
-    by-test (x .applies) (λ t. (not (eqb (x .number) m) || not t) ≡ true → cond t (x .number) (refusal l) ≢ m)
-    (λ e q z. let y : (not (eqb (x .number) m) || false) ≡ false = rw (eq-eqb (x .number) m z) in let w : _≡_ {A = ℕ} 0 1 = cc in omega arith)
-    (λ e q. refusal-lacks m l p (a .1)) (a .0)
+use Rattle.theory.specs.Started.{started, started-length}
+use Rattle.theory.specs.TestLaws.{numbered, Decided, free, turned, refused, clash}
+use Rattle.theory.specs.AnyChange.{Done as DoneOn, reply-head, advance-done, set-done, clear-done, update-done}
 
 -- ---- a call that is lent the store only
 never-refused : {A : Type 0} {h : Head} {n : ℕ} → _≡_ {A = Answer} (Done h) (Refused n) → A
@@ -77,41 +36,63 @@ pub record Fair (l : List Test) (ws : List ℕ) (r : Reply) : Type 0 where
   pub accepted-iff : (accepted (r .answer) ≡ true) ↔ All (λ x. x .applies ≡ false) l
   pub refused-first : (n : ℕ) → r .answer ≡ Refused n → First l n
   pub store-kept : (n : ℕ) → r .answer ≡ Refused n → r .store ≡ ws
-  pub rows-none : r .rows ≡ []
-  pub list-none : r .list ≡ []
+  pub lent-none : r .lent ≡ []
+  pub no-view : NoView (r .answer)
   pub same-length : length (r .store) ≡ length ws
 
 pub reply-fair : (l : List Test) (ws : List ℕ) (h : Head) (after : List ℕ) → numbered l ≡ true
     → (All (λ x. x .applies ≡ false) l → length after ≡ length ws) → Fair l ws (reply l ws (Done h) after)
 reply-fair l ws h after k long = go (refusal l) (refused l k)
   where
-    go : (n : ℕ) → Decided l n → Fair l ws (cond (eqb n 0) (record { answer = Done h; store = after; rows = []; list = [] }) (record { answer = Refused n; store = ws; rows = []; list = [] }))
+    go : (n : ℕ) → Decided l n → Fair l ws (cond (eqb n 0) (record { answer = Done h; store = after; lent = [] }) (record { answer = Refused n; store = ws; lent = [] }))
     go zero (free a) = record {
       accepted-iff = (λ e. a, λ b. refl);
       refused-first = λ n e. never-refused e;
       store-kept = λ n e. never-refused e;
-      rows-none = refl;
-      list-none = refl;
+      lent-none = refl;
+      no-view = tt;
       same-length = long a;
     }
     go n (turned p f) = rw (ne-eqb n 0 (omega arith)) (record {
       accepted-iff = (λ e. absurd (let z : _≡_ {A = ℕ} 0 1 = cc in omega arith), λ b. absurd (clash b f));
       refused-first = λ m e. let z : n ≡ m = cc in rw z at f;
       store-kept = λ m e. refl;
-      rows-none = refl;
-      list-none = refl;
+      lent-none = refl;
+      no-view = tt;
       same-length = refl;
     })
 
+-- a call that is no query
+abbrev asks : Call → Bool
+asks (Start s) = false
+asks (Set s tag reading) = false
+asks (Clear s tag) = false
+asks (Update s tag reading) = false
+asks (Advance s) = false
+asks (Ask q) = true
+
+no-query : (c : Call) (a : Answer) → asks c ≡ false → NoView a → KindOf c a
+no-query (Start s) a k n = n
+no-query (Set s tag reading) a k n = n
+no-query (Clear s tag) a k n = n
+no-query (Update s tag reading) a k n = n
+no-query (Advance s) a k n = n
+no-query (Ask q) a k n = absurd (true≢false k)
+
 -- the claim, of a call that is lent no buffer
-fair-every : {ws : List ℕ} {c : Call} → lentRows c ≡ [] → lentList c ≡ [] → Fair (testsOf ws c) ws (step ws c) → EveryCall ws c
-fair-every r l f = record {
+fair-every : {ws : List ℕ} {c : Call} → asks c ≡ false → lentBy c ≡ [] → Fair (testsOf ws c) ws (step ws c) → DoneOn ws c → EveryCall ws c
+fair-every {ws} {c} k r f d = record {
   accepted-iff = f .accepted-iff;
   refused-first = f .refused-first;
   store-kept = f .store-kept;
-  buffers-kept = λ n e d. (f .rows-none ∙ sym r, f .list-none ∙ sym l);
-  buffers-zero = λ e. (f .rows-none ∙ rw r, f .list-none ∙ rw l);
-  same-lengths = (f .same-length, ap length (f .rows-none ∙ sym r), ap length (f .list-none ∙ sym l));
+  buffers-kept = λ n e d. f .lent-none ∙ sym r;
+  buffers-zero = λ e. f .lent-none ∙ sym (ap zeroed r);
+  head-or-view = no-query c (step ws c .answer) k (f .no-view);
+  head-stored = d .head-stored;
+  foretold = d .foretold;
+  small = d .small;
+  same-lengths = (f .same-length, ap (λ (l : List (List ℕ)). map length l) (f .lent-none ∙ sym r));
+  query-reads = λ q e. absurd (true≢false (sym (ap asks e) ∙ k));
 }
 
 -- ---- the changes and the clock move
@@ -120,27 +101,33 @@ change-fair l ws p n = reply-fair l ws _ _ n (λ a. run-length (over (headOf ws 
 
 pub every-set : (ws : List ℕ) (s tag reading : ℕ) → EveryCall ws (Set s tag reading)
 unfolding set
-every-set ws s tag reading = fair-every refl refl (change-fair _ ws (setProgram (headOf ws .settings) (headOf ws .cursor) s tag reading) refl)
+every-set ws s tag reading = fair-every refl refl (change-fair _ ws (setProgram (headOf ws .settings) (headOf ws .cursor) s tag reading) refl) (set-done ws s tag reading)
 
 pub every-clear : (ws : List ℕ) (s tag : ℕ) → EveryCall ws (Clear s tag)
 unfolding clear
-every-clear ws s tag = fair-every refl refl (change-fair _ ws (clearProgram (headOf ws .settings) (headOf ws .cursor) s tag) refl)
+every-clear ws s tag = fair-every refl refl (change-fair _ ws (clearProgram (headOf ws .settings) (headOf ws .cursor) s tag) refl) (clear-done ws s tag)
 
 pub every-update : (ws : List ℕ) (s tag reading : ℕ) → EveryCall ws (Update s tag reading)
 unfolding update
 every-update ws s tag reading = fair-every refl refl (change-fair _ ws (updateProgram (headOf ws .settings) (headOf ws .cursor) s tag reading) refl)
+    (update-done ws s tag reading)
 
 pub every-advance : (ws : List ℕ) (s : ℕ) → EveryCall ws (Advance s)
 unfolding advance
-every-advance ws s = fair-every refl refl (change-fair _ ws (advanceProgram (headOf ws .settings) (headOf ws .cursor) s) refl)
+every-advance ws s = fair-every refl refl (change-fair _ ws (advanceProgram (headOf ws .settings) (headOf ws .cursor) s) refl) (advance-done ws s)
 
 -- ---- start
-pub every-start : (ws : List ℕ) (b q blocks tags : ℕ) → EveryCall ws (Start b q blocks tags)
+pub every-start : (ws : List ℕ) (s : Settings) → EveryCall ws (Start s)
 unfolding start
-every-start ws b q blocks tags = fair-every refl refl (reply-fair _ ws _ _ refl long)
+every-start ws s =
+    fair-every refl refl (reply-fair _ ws _ _ refl long) (record { head-stored = stored; foretold = λ a. tt; small = λ k. absurd k })
   where
-    s : Settings
-    s = record { block = b; useful = q; blocks = blocks; tags = tags }
-
-    long : All (λ x. x .applies ≡ false) (testsOf ws (Start b q blocks tags)) → length (withHead (freshHead s) (cleared s ws)) ≡ length ws
+    long : All (λ x. x .applies ≡ false) (testsOf ws (Start s)) → length (withHead (freshHead s) (cleared s ws)) ≡ length ws
     long (cons x (cons y (cons z nil))) = started-length s ws (ltb-false (length ws) (layoutLen s) z) (ltb-false (length ws) headLen y)
+
+    head : All (λ x. x .applies ≡ false) (testsOf ws (Start s)) → headOf (withHead (freshHead s) (cleared s ws)) ≡ freshHead s
+    head (cons x (cons y (cons z nil))) =
+        sym (started s ws (ltb-false (length ws) (layoutLen s) z) (limits-within s (not-false _ x)) (ltb-false (length ws) headLen y) .read .is)
+
+    stored : (h : Head) → step ws (Start s) .answer ≡ Done h → headOf (step ws (Start s) .store) ≡ h
+    stored = reply-head (testsOf ws (Start s)) ws (freshHead s) (withHead (freshHead s) (cleared s ws)) refl head

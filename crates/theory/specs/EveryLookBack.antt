@@ -1,12 +1,12 @@
 -- Every look-back on any words: accepted if and only if no refusal applies, its answer fits its buffers, and refusal 12 fills both with zeros.
-use mathlib.Core.Path.{_≡_, refl, sym, ap, _∙_, subst}
-use mathlib.Core.Logic.{_≢_, _↔_}
+use mathlib.Core.Path.{_≡_, refl, sym, ap₂, _∙_}
+use mathlib.Core.Logic.{_≢_}
 use mathlib.Core.Bool.{Bool, true, false, cond, not, _||_}
 use mathlib.Core.List.{List, [], _∷_}
 use Prim.Native.Nat.{ℕ, zero, _*_, _-_, _≤_, _<_}
 use native.Mathlib.Omega.{arith}
 use lib.Dec.{eqb, ltb}
-use lib.ListN.{length, getD, length-append, length-drop, length-replicate}
+use lib.ListN.{length, getD, length-append, length-drop}
 use borrow.Author.Tests.{ne-eqb, ltb-false}
 use Rattle.base.specs.Branch.{is?, or-false}
 use Rattle.base.specs.Sums.{All, nil, cons}
@@ -14,13 +14,16 @@ use Rattle.layout.specs.Sizes.{OPEN, mark, rowLen}
 use Rattle.layout.specs.Fields.{headMark}
 use Rattle.layout.specs.Settings.{inLimits}
 use Rattle.layout.specs.Head.{headOf, badHead, fillFits, spareZero}
-use Rattle.calls.specs.Calls.{Call, Start, Set, Clear, Update, Advance, LookBack, Row, Refused, accepted, Reply}
+use Rattle.calls.specs.Calls.{Call, Start, Set, Clear, Update, Advance, Ask, LookBack, Row, Refused}
 use Rattle.calls.specs.Walk.{Pass, Looked, unsoundly, looked}
 use Rattle.calls.specs.Refusals.{Test, refusal, lookBackTests}
-use Rattle.calls.specs.Step.{step, lookAt, lookBack, seen, isUnsound, rowWords, written, zeros, reader}
+use Rattle.calls.specs.LookBack.{SliceReply, lookAt, lookBack, seen, isUnsound, rowWords, written, reader}
+use Rattle.calls.specs.Step.{QueryReply}
 use Rattle.calls.specs.Claims.{First, EveryCall}
 use Rattle.theory.specs.LookFits.{look-fits}
-use Rattle.theory.specs.EveryCall.{Decided, free, turned, refused, clash, refusal-lacks, every-start, every-set, every-clear, every-update, every-advance}
+use Rattle.theory.specs.TestLaws.{Decided, free, turned, refused, refusal-lacks}
+use Rattle.theory.specs.QueryLaws.{FairQuery, answered-query, turned-query, unsound-query, every-query}
+use Rattle.theory.specs.EveryCall.{every-start, every-set, every-clear, every-update, every-advance}
 
 row-words-length : (r : List Row) → length (rowWords r) ≡ rowLen * length r
 row-words-length [] = refl
@@ -58,85 +61,37 @@ module _ (ws : List ℕ) (t : ℕ) (rows list : List ℕ) where
       )
 
   -- the reply, for what the walk gave
-  abbrev given : Looked → ℕ → Reply
-  given w n = cond (eqb n 0 || eqb n 12) (seen ws rows list w) (record { answer = Refused n; store = ws; rows = rows; list = list })
+  abbrev replied : SliceReply → QueryReply
+  replied r = record { answer = r .answer; lent = r .rows ∷ r .list ∷ [] }
 
-  -- the claim of such a reply
-  pub record FairLook (u : Bool) (r : Reply) : Type 0 where
-    pub accepted-iff : (accepted (r .answer) ≡ true) ↔ All (λ x. x .applies ≡ false) (tests u)
-    pub refused-first : (n : ℕ) → r .answer ≡ Refused n → First (tests u) n
-    pub store-kept : r .store ≡ ws
-    pub buffers-kept : (n : ℕ) → r .answer ≡ Refused n → n ≢ 12 → (r .rows ≡ rows) × (r .list ≡ list)
-    pub buffers-zero : r .answer ≡ Refused 12 → (r .rows ≡ zeros rows) × (r .list ≡ zeros list)
-    pub same-lengths : (length (r .rows) ≡ length rows) × (length (r .list) ≡ length list)
+  abbrev Fair : Looked → ℕ → Type 0
+  Fair w n = FairQuery (tests (isUnsound w)) (rows ∷ list ∷ [])
+      (replied (cond (eqb n 0 || eqb n 12) (seen rows list w) (record { answer = Refused n; rows = rows; list = list })))
 
   -- an unsound walk: its test is the last
-  not-free : {n : ℕ} → All (λ x. x .applies ≡ false) (tests true) → n ≡ 0 → ⊥
-  not-free (cons x₂ (cons x₃ (cons x₄ (cons x₅ (cons x₇ (cons x₁₁ (cons x₁₂ nil))))))) e = let z : _≡_ {A = ℕ} 0 1 = cc in omega arith
+  not-free : All (λ x. x .applies ≡ false) (tests true) → ⊥
+  not-free (cons x₂ (cons x₃ (cons x₄ (cons x₅ (cons x₇ (cons x₁₁ (cons x₁₂ nil))))))) = let z : _≡_ {A = ℕ} 0 1 = cc in omega arith
 
-  turned-look : (u : Bool) (w : Looked) (n : ℕ) → 0 < n → n ≢ 12 → First (tests u) n → FairLook u (given w n)
-  turned-look u w n p d f = rw (ne-eqb n 0 (omega arith), ne-eqb n 12 d) (record {
-    accepted-iff = (λ e. absurd (let z : _≡_ {A = ℕ} 0 1 = cc in omega arith), λ a. absurd (clash a f));
-    refused-first = λ m e. let z : n ≡ m = cc in rw z at f;
-    store-kept = refl;
-    buffers-kept = λ m e c. (refl, refl);
-    buffers-zero = λ e. let z : n ≡ 12 = cc in absurd (d z);
-    same-lengths = (refl, refl);
-  })
+  turned-look : (w : Looked) (n : ℕ) → 0 < n → n ≢ 12 → First (tests (isUnsound w)) n → Fair w n
+  turned-look w n p d f = rw (ne-eqb n 0 (omega arith), ne-eqb n 12 d) (turned-query n d f)
 
-  unsound-look : First (tests true) 12 → FairLook true (seen ws rows list unsoundly)
-  unsound-look f = record {
-    accepted-iff = (λ e. absurd (let z : _≡_ {A = ℕ} 0 1 = cc in omega arith), λ a. absurd (clash a f));
-    refused-first = λ m e. let z : 12 ≡ m = cc in subst (λ (k : ℕ). First (tests true) k) z f;
-    store-kept = refl;
-    buffers-kept = λ m e c. let z : 12 ≡ m = cc in absurd (c (sym z));
-    buffers-zero = λ e. (refl, refl);
-    same-lengths = (length-replicate (length rows) 0, length-replicate (length list) 0);
-  }
+  fair-look : (w : Looked) → lookAt ws t ≡ w → (n : ℕ) → n ≡ refusal (tests (isUnsound w)) → Decided (tests (isUnsound w)) n → Fair w n
+  fair-look unsoundly e zero k (free a) = absurd (not-free a)
+  fair-look unsoundly e n k (turned p f) = is? n 12 (λ z. rw z (unsound-query refl (rw z at f))) (λ d. turned-look unsoundly n p d f)
+  fair-look (looked r l ps) e zero k (free a) = let z = fits r l ps e a in answered-query refl tt a (ap₂ (λ (x y : ℕ). x ∷ y ∷ []) (z .0) (z .1))
+  fair-look (looked r l ps) e n k (turned p f) = turned-look (looked r l ps) n p (λ z. sound-never (sym k ∙ z)) f
 
-  sound-look : (r : List Row) (l : List ℕ) (ps : List Pass) → lookAt ws t ≡ looked r l ps → All (λ x. x .applies ≡ false) (tests false)
-      → FairLook false (seen ws rows list (looked r l ps))
-  sound-look r l ps e a = record {
-    accepted-iff = (λ z. a, λ z. refl);
-    refused-first = λ n z. absurd (let y : _≡_ {A = ℕ} 0 1 = cc in omega arith);
-    store-kept = refl;
-    buffers-kept = λ n z. absurd (let y : _≡_ {A = ℕ} 0 1 = cc in omega arith);
-    buffers-zero = λ z. absurd (let y : _≡_ {A = ℕ} 0 1 = cc in omega arith);
-    same-lengths = fits r l ps e a;
-  }
-
-  fair-look : (w : Looked) → lookAt ws t ≡ w → (n : ℕ) → n ≡ refusal (tests (isUnsound w)) → Decided (tests (isUnsound w)) n → FairLook (isUnsound w) (given w n)
-  fair-look unsoundly e zero k (free a) = absurd (not-free {n = 0} a refl)
-  fair-look unsoundly e n k (turned p f) = is? n 12 (λ z. rw z (unsound-look (rw z at f))) (λ d. turned-look true unsoundly n p d f)
-  fair-look (looked r l ps) e zero k (free a) = sound-look r l ps e a
-  fair-look (looked r l ps) e n k (turned p f) = turned-look false (looked r l ps) n p (λ z. sound-never (sym k ∙ z)) f
-
-  pub every-look-back : EveryCall ws (LookBack t rows list)
+  pub every-look-back : EveryCall ws (Ask (LookBack t rows list))
   unfolding lookBack
   every-look-back =
       let w = lookAt ws t in
-      let f = fair-look w refl (refusal (tests (isUnsound w))) refl (refused (tests (isUnsound w)) refl) in
-      record {
-        accepted-iff = f .accepted-iff;
-        refused-first = f .refused-first;
-        store-kept = λ n e. f .store-kept;
-        buffers-kept = f .buffers-kept;
-        buffers-zero = f .buffers-zero;
-        same-lengths = (ap length (f .store-kept), f .same-lengths .0, f .same-lengths .1);
-      }
-
--- a look-back only reads the store
-pub look-back-keeps : (ws : List ℕ) (t : ℕ) (rows list : List ℕ) → step ws (LookBack t rows list) .store ≡ ws
-unfolding lookBack
-look-back-keeps ws t rows list =
-    let w = lookAt ws t in
-    fair-look ws t rows list w refl (refusal (tests ws t rows list (isUnsound w))) refl (refused (tests ws t rows list (isUnsound w)) refl) .store-kept
+      every-query ws (LookBack t rows list) (fair-look w refl (refusal (tests (isUnsound w))) refl (refused (tests (isUnsound w)) refl))
 
 -- EVERY CALL ON ANY WORDS.
 pub every-call : (ws : List ℕ) (c : Call) → EveryCall ws c
-every-call ws (Start b q blocks tags) = every-start ws b q blocks tags
+every-call ws (Start s) = every-start ws s
 every-call ws (Set s tag reading) = every-set ws s tag reading
 every-call ws (Clear s tag) = every-clear ws s tag
 every-call ws (Update s tag reading) = every-update ws s tag reading
 every-call ws (Advance s) = every-advance ws s
-every-call ws (LookBack t rows list) = every-look-back ws t rows list
+every-call ws (Ask (LookBack t rows list)) = every-look-back ws t rows list

@@ -15,8 +15,8 @@ use Rattle.layout.specs.Address.{Valid, Numbered}
 use Rattle.layout.specs.Memory.{Memory}
 use Rattle.layout.specs.Head.{headOf, placed}
 use Rattle.layout.specs.OnWords.{over}
-use Rattle.layout.specs.OverLaws.{over-fits}
-use Rattle.calls.specs.Step.{wordsRead, reader}
+use Rattle.calls.specs.LookBack.{reader}
+use Rattle.calls.specs.Step.{wordsRead}
 use Rattle.calls.specs.Book.{recordsIn}
 use Rattle.calls.specs.History.{Account}
 use Rattle.calls.specs.Claims.{Agrees}
@@ -26,27 +26,28 @@ use Rattle.theory.specs.Copies.{headWith}
 use Rattle.theory.specs.Rest.{Rest}
 use Rattle.theory.specs.BookCalls.{Booked, booked-block, booked-useful, booked-length, booked-opened, booked-closed, booked-records}
 use Rattle.theory.specs.Counting.{Counted, counted-bound}
-use Rattle.theory.specs.Stored.{Stored, stored-at, head-passes}
+use Rattle.theory.specs.SoFar.{Timed}
+use Rattle.theory.specs.Stored.{Stored, stored-at}
 use Rattle.theory.specs.Right.{LookSound}
 use Rattle.theory.specs.LookReady.{look-ready}
-use Rattle.theory.specs.LookAnswers.{Answers, walk-sound}
 
 pub record Honest (ws : List ℕ) (a : Account) : Type 0 where
-  pub settings : Settings
   pub cursor : Cursor
   pub memory : Memory
-  -- the words hold the head and the memory
-  pub stored : Stored ws (headWith settings cursor) memory
+  -- the words hold the head, with the account's settings and clock, and the memory
+  pub stored : Stored ws (headWith (a .settings) cursor) memory
+  pub clock : cursor .clock ≡ a .clock
   -- which are at rest and tell the log
-  pub rest : Rest settings (readings (a .log)) cursor memory
+  pub rest : Rest (a .settings) (readings (a .log)) cursor memory
   pub once : Once (a .log)
+  pub timed : Timed (a .clock) (a .log)
   -- and show the book
-  pub booked : Booked settings (a .book) cursor memory
+  pub booked : Booked (a .settings) (a .book) cursor memory
   pub counted : Counted (a .sets) (a .book)
 
 module _ {ws : List ℕ} {a : Account} (i : Honest ws a) where
   abbrev s : Settings
-  s = i .settings
+  s = a .settings
 
   abbrev c : Cursor
   c = i .cursor
@@ -92,17 +93,6 @@ module _ {ws : List ℕ} {a : Account} (i : Honest ws a) where
       rw placed-is (counted-bound (omega (arith, w .some, booked-useful (i .booked))) (omega (arith, w .half, booked-block (i .booked), booked-useful (i .booked))) (i .counted))
 
   -- ---- the words answer look-backs
-  pub before-open : (t : ℕ) → t ≤ headOf ws .cursor .clock → t < OPEN
-  before-open t l = let k : t ≤ c .clock = rw head-is at l in omega (arith, i .rest .full .state .past)
-
   pub sound : (t : ℕ) → t < OPEN
       → LookSound (headOf ws .settings .block) (headOf ws .settings .tags) (headOf ws .cursor .opened) t (reader ws) (view c f)
   sound t o = rw head-is (look-ready (i .stored) (i .rest .full .state) t o)
-
-  pub answers : Answers ws
-  answers = record {
-    long = i .stored .read .long;
-    passed = head-passes (i .stored .read);
-    room = rw head-is (over-fits s (i .stored .agree .good) .long);
-    walks = λ t o l. walk-sound ws (sound t o);
-  }

@@ -23,30 +23,31 @@ use Rattle.layout.specs.HeadLaws.{SoundHead}
 use Rattle.layout.specs.Program.{Prog, run, runOn}
 use Rattle.layout.specs.ProgramLaws.{Safe}
 use Rattle.layout.specs.OnWords.{over}
-use Rattle.calls.specs.Calls.{Call, Start, Set, Clear, Update, Advance, LookBack, Answer, Done, Shown, Refused, accepted}
+use Rattle.calls.specs.Calls.{Call, Start, Set, Clear, Update, Advance, Ask, Answer, Done, Shown, Refused, accepted}
 use Rattle.calls.specs.Placing.{setProgram, clearProgram, updateProgram, advanceProgram}
 use Rattle.calls.specs.Refusals.{Test, timeTests, setOwn, clearOwn, tagBlock, copies, blocksOut}
 use Rattle.calls.specs.Step.{step, testsOf, start, set, clear, update, advance, wordsRead, freshHead}
+use Rattle.calls.specs.Book.{Book}
+use Rattle.calls.specs.Log.{Log}
 use Rattle.calls.specs.History.{Account, opening, enters}
-use Rattle.calls.specs.Claims.{EveryCall, Small, Change}
+use Rattle.calls.specs.Claims.{EveryCall}
+use Rattle.safety.specs.CallSafe.{advance-goes, set-goes, clear-call-goes, update-goes, advance-over, set-over, clear-over, update-over}
 use Rattle.theory.specs.Reading.{none, some}
 use Rattle.theory.specs.Timeline.{Timeline, told-alike}
 use Rattle.theory.specs.State.{free}
 use Rattle.theory.specs.LogLaws.{Once, readings, once-empty, once-set, once-clear, once-update, readings-set, readings-clear, readings-update}
+use Rattle.theory.specs.SoFar.{Timed, timed-none, timed-later, timed-more}
 use Rattle.theory.specs.Copies.{headWith}
-use Rattle.theory.specs.Rest.{Rest, Changed, rest-fresh, rest-advance, rest-set, rest-clear, rest-update}
-use Rattle.theory.specs.Closings.{opens-one, keeps-all, closes-two}
-use Rattle.theory.specs.SmallSteps.{small-same, small-between}
-use Rattle.theory.specs.SafeCalls.{advance-safe, set-safe, clear-call-safe, update-safe}
+use Rattle.theory.specs.Rest.{Rest, rest-fresh, rest-advance, rest-set, rest-clear, rest-update}
 use Rattle.theory.specs.Fresh.{freshMemory, fresh-blank}
-use Rattle.theory.specs.Sound.{same-copies}
+use Rattle.theory.specs.Sound.{set-sound, clear-sound, same-copies}
 use Rattle.theory.specs.BookCalls.{Booked, booked-fresh, booked-advance, booked-set, booked-clear, booked-update}
 use Rattle.theory.specs.Counting.{Counted, counted-empty, counted-set, counted-clear, counted-update}
-use Rattle.theory.specs.HeadKept.{HeadMoved, set-head, clear-head, update-head, advance-head}
+use Rattle.theory.specs.HeadKept.{HeadMoved, set-head, clear-head, update-head, advance-head, set-clock, clear-clock, update-clock, advance-clock}
 use Rattle.theory.specs.Stored.{stored-run}
 use Rattle.theory.specs.Started.{started}
-use Rattle.theory.specs.EveryCall.{refusal-none}
-use Rattle.theory.specs.EveryLookBack.{every-call, look-back-keeps}
+use Rattle.theory.specs.TestLaws.{refusal-none}
+use Rattle.theory.specs.EveryLookBack.{every-call}
 use Rattle.theory.specs.Honest.{Honest, head-is, word-is}
 
 -- ---- a log that says the same of every second
@@ -83,14 +84,9 @@ rest-sound i = record {
   some = i .begun;
 }
 
--- what an accepted change leaves
-pub record Moved (ws us : List ℕ) (b : Account) : Type 0 where
-  pub honest : Honest us b
-  pub small : Small ws us
-
 module _ {ws : List ℕ} {a : Account} (i : Honest ws a) where
   abbrev s : Settings
-  s = i .settings
+  s = a .settings
 
   abbrev c : Cursor
   c = i .cursor
@@ -102,23 +98,28 @@ module _ {ws : List ℕ} {a : Account} (i : Honest ws a) where
   free-log : (tag : ℕ) → f (Dir tag) ≡ 0 → (t : ℕ) → c .clock ≤ t → t < OPEN → readings (a .log) t tag ≡ none
   free-log tag e t l o = free (i .rest .full .state) tag e t l o
 
-  -- what an accepted program's run leaves, where log and book follow
-  ran : {b : Account} {log : Timeline} {x m : ℕ} (p : Prog Cursor) → Safe (over s) p f → HeadMoved ((runOn p f) .0) f ((runOn p f) .1)
-      → Changed s log x m c f ((runOn p f) .0) ((runOn p f) .1) → ((t g : ℕ) → t < OPEN → log t g ≡ readings (b .log) t g) → Once (b .log)
-      → Booked s (b .book) ((runOn p f) .0) ((runOn p f) .1) → Counted (b .sets) (b .book) → Moved ws ((run (over s) p ws) .1) b
-  ran {b} p safe moved changed alike once booked counted =
-      let rest = rest-alike alike (changed .rest) in
-      let h : Honest ((run (over s) p ws) .1) b = record {
-        settings = s;
+  -- what an accepted program's run leaves, where clock, log and book follow
+  ran : {now : ℕ} {book : Book} {l : Log} {sets : ℕ} {log : Timeline} (p : Prog Cursor) → Safe (over s) p f
+      → HeadMoved ((runOn p f) .0) f ((runOn p f) .1) → (runOn p f) .0 .clock ≡ now → Rest s log ((runOn p f) .0) ((runOn p f) .1)
+      → ((t g : ℕ) → t < OPEN → log t g ≡ readings l t g) → Once l → Timed now l → Booked s book ((runOn p f) .0) ((runOn p f) .1) → Counted sets book
+      → Honest ((run (over s) p ws) .1) (record { settings = s; clock = now; book = book; log = l; sets = sets })
+  ran p safe moved clock kept alike once timed booked counted =
+      let rest = rest-alike alike kept in
+      record {
         cursor = (runOn p f) .0;
         memory = (runOn p f) .1;
         stored = stored-run p (i .stored) safe moved (rest-sound rest) .store;
+        clock = clock;
         rest = rest;
         once = once;
+        timed = timed;
         booked = booked;
         counted = counted;
-      } in
-      record { honest = h; small = small-between i h (opens-one c _ f _ changed) (keeps-all c _ f _ changed) (closes-two c _ f _ changed) }
+      }
+
+  -- what was logged by the clock was logged by then
+  timed-by : {now : ℕ} → c .clock ≤ now → a .clock ≤ now
+  timed-by h = omega (arith, i .clock)
 
   -- ---- what the tests that do not apply say
   abbrev Passed : Call → Type 0
@@ -134,6 +135,13 @@ module _ {ws : List ℕ} {a : Account} (i : Honest ws a) where
   same : Same (wordsRead ws) (Valid s) f
   same = record { at = word-is i }
 
+  -- and the memory's own
+  itself : Same f (Valid s) f
+  itself = record { at = λ x v. refl }
+
+  head-sound : SoundHead (headWith s c)
+  head-sound = i .stored .read .sound
+
   -- a change at now
   record Timely (now : ℕ) : Type 0 where
     later : c .clock ≤ now
@@ -144,34 +152,36 @@ module _ {ws : List ℕ} {a : Account} (i : Honest ws a) where
       (record { later = omega (arith, ltb-false now (headOf ws .cursor .clock) x₆, clock-is); ends = leb-false OPEN now x₅ }, r)
 
   -- ---- a clock move
-  honest-advance : (now : ℕ) → Passed (Advance now) → Moved ws (step ws (Advance now) .store) a
+  honest-advance : (now : ℕ) → Passed (Advance now) → Honest (step ws (Advance now) .store) (enters a (Advance now))
   unfolding advance
   honest-advance now p =
       let k = timely now p .0 in
       let after : step ws (Advance now) .store ≡ (run (over s) (advanceProgram s c now) ws) .1 =
       rw (refusal-none p) (ap (λ (h : Head). (run (over (h .settings)) (advanceProgram (h .settings) (h .cursor) now) ws) .1) (head-is i)) in
-      subst (λ (us : List ℕ). Moved ws us a) (sym after)
-      (ran {b = a} (advanceProgram s c now) (advance-safe c f (i .rest) now) (advance-head s c now f)
-      (rest-advance c f (i .rest) now (k .later) (k .ends)) (λ t g o. refl) (i .once) (booked-advance c f (i .rest) (i .booked) now (k .later) (k .ends)) (i .counted))
+      subst (λ (us : List ℕ). Honest us (enters a (Advance now))) (sym after)
+      (ran (advanceProgram s c now) (advance-over head-sound f now) (advance-head s c now f) (advance-clock s c now f)
+      (rest-advance c f (i .rest) now (k .later) (k .ends) (advance-goes head-sound f now .leaves)) (λ t g o. refl) (i .once) (timed-later (timed-by (k .later)) (i .timed))
+      (booked-advance c f (i .rest) (i .booked) now (k .later) (k .ends)) (i .counted))
 
   -- ---- a set
-  honest-set : (now tag reading : ℕ) → Passed (Set now tag reading) → Moved ws (step ws (Set now tag reading) .store) (enters a (Set now tag reading))
+  honest-set : (now tag reading : ℕ) → Passed (Set now tag reading) → Honest (step ws (Set now tag reading) .store) (enters a (Set now tag reading))
   unfolding set
   honest-set now tag reading p = go (timely now p .0) (timely now p .1)
     where
-      go : Timely now → All (λ y. y .applies ≡ false) (setOwn (headOf ws) (wordsRead ws) tag) → Moved ws (step ws (Set now tag reading) .store) (enters a (Set now tag reading))
+      go : Timely now → All (λ y. y .applies ≡ false) (setOwn (headOf ws) (wordsRead ws) tag) → Honest (step ws (Set now tag reading) .store) (enters a (Set now tag reading))
       go k (cons x₈ (cons x₉ (cons x₁₂ (cons x₁₃ nil)))) =
           let known : tag < s .tags = omega (arith, leb-false (headOf ws .settings .tags) tag x₈, tags-are) in
           let free : f (Dir tag) ≡ 0 = sym (word-is i (Dir tag) known) ∙ eqb-true (wordsRead ws (Dir tag)) 0 (not-false _ x₉) in
           let left : blocksOut (headWith s c) 1 ≡ false = ap (λ (h : Head). blocksOut h 1) (sym (head-is i)) ∙ x₁₃ in
-          let z = rest-set c f (i .rest) now (k .later) (k .ends) tag reading known free left in
+          let sound = set-sound c f (i .rest) f itself in
+          let z = rest-set c f (i .rest) now (k .later) (k .ends) tag reading known free (set-goes head-sound f now tag known reading sound left .leaves) in
           let absent : (t : ℕ) → now ≤ t → t < OPEN → readings (a .log) t tag ≡ none = λ t l o. free-log tag free t (omega (arith, k .later)) o in
           let after : step ws (Set now tag reading) .store ≡ (run (over s) (setProgram s c now tag reading) ws) .1 =
           rw (refusal-none p) (ap (λ (h : Head). (run (over (h .settings)) (setProgram (h .settings) (h .cursor) now tag reading) ws) .1) (head-is i)) in
-          subst (λ (us : List ℕ). Moved ws us (enters a (Set now tag reading))) (sym after)
-          (ran {b = enters a (Set now tag reading)} (setProgram s c now tag reading) (set-safe c f (i .rest) now (k .later) (k .ends) tag known reading left) (set-head s c now f tag reading)
-          z (λ t g o. sym (readings-set (a .log) now tag reading t g (λ l. absent t l o)))
-          (once-set now tag (i .once) reading absent)
+          subst (λ (us : List ℕ). Honest us (enters a (Set now tag reading))) (sym after)
+          (ran (setProgram s c now tag reading) (set-over head-sound f now tag known reading sound left) (set-head s c now f tag reading)
+          (set-clock s c now f tag reading) z (λ t g o. sym (readings-set (a .log) now tag reading t g (λ l. absent t l o)))
+          (once-set now tag (i .once) reading absent) (timed-more (Set now tag reading) (timed-by (k .later)) (omega arith) (i .timed))
           (booked-set c f (i .rest) (i .booked) now (k .later) (k .ends) tag reading)
           (counted-set now tag (omega (arith, k .ends)) (i .counted)))
 
@@ -194,81 +204,73 @@ module _ {ws : List ℕ} {a : Account} (i : Honest ws a) where
             ∙ ap (λ (h : Head). blocksOut h (copies h (wordsRead ws) (tagBlock h (wordsRead ws) tag) + more)) (sym (head-is i)) ∙ x₁₃;
       }
 
-  honest-clear : (now tag : ℕ) → Passed (Clear now tag) → Moved ws (step ws (Clear now tag) .store) (enters a (Clear now tag))
+  honest-clear : (now tag : ℕ) → Passed (Clear now tag) → Honest (step ws (Clear now tag) .store) (enters a (Clear now tag))
   unfolding clear
   honest-clear now tag p =
       let q = timely now p in
       let k = q .0 in
       let w = found 0 tag (q .1) in
-      let z = rest-clear c f (i .rest) now (k .later) (k .ends) tag (w .stands) (w .left) in
+      let sound = clear-sound c f (i .rest) f itself tag (w .known) (w .stands) 0 in
+      let z = rest-clear c f (i .rest) now (k .later) (k .ends) tag (w .stands) (clear-call-goes head-sound f now tag (w .known) (w .stands) sound (w .left) .leaves) in
       let after : step ws (Clear now tag) .store ≡ (run (over s) (clearProgram s c now tag) ws) .1 =
       rw (refusal-none p) (ap (λ (h : Head). (run (over (h .settings)) (clearProgram (h .settings) (h .cursor) now tag) ws) .1) (head-is i)) in
-      subst (λ (us : List ℕ). Moved ws us (enters a (Clear now tag))) (sym after)
-      (ran {b = enters a (Clear now tag)} (clearProgram s c now tag) (clear-call-safe c f (i .rest) now (k .later) (k .ends) tag (w .known) (w .stands) (w .left)) (clear-head s c now f tag)
-      z (λ t g o. sym (readings-clear (a .log) now tag t g))
-      (once-clear now tag (i .once))
+      subst (λ (us : List ℕ). Honest us (enters a (Clear now tag))) (sym after)
+      (ran (clearProgram s c now tag) (clear-over head-sound f now tag (w .known) (w .stands) sound (w .left)) (clear-head s c now f tag)
+      (clear-clock s c now f tag) z (λ t g o. sym (readings-clear (a .log) now tag t g))
+      (once-clear now tag (i .once)) (timed-more (Clear now tag) (timed-by (k .later)) (omega arith) (i .timed))
       (booked-clear c f (i .rest) (i .booked) now (k .later) (k .ends) tag (w .stands))
       (counted-clear now tag (omega (arith, k .ends)) (i .counted)))
 
-  honest-update : (now tag reading : ℕ) → Passed (Update now tag reading) → Moved ws (step ws (Update now tag reading) .store) (enters a (Update now tag reading))
+  honest-update : (now tag reading : ℕ) → Passed (Update now tag reading) → Honest (step ws (Update now tag reading) .store) (enters a (Update now tag reading))
   unfolding update
   honest-update now tag reading p =
       let q = timely now p in
       let k = q .0 in
       let w = found 1 tag (q .1) in
-      let z = rest-update c f (i .rest) now (k .later) (k .ends) tag (w .stands) reading (w .known) (w .left) in
+      let sound = clear-sound c f (i .rest) f itself tag (w .known) (w .stands) 1 in
+      let z = rest-update c f (i .rest) now (k .later) (k .ends) tag (w .stands) reading (w .known)
+      (update-goes head-sound f now tag (w .known) (w .stands) reading sound (w .left) .leaves) in
       let after : step ws (Update now tag reading) .store ≡ (run (over s) (updateProgram s c now tag reading) ws) .1 =
       rw (refusal-none p) (ap (λ (h : Head). (run (over (h .settings)) (updateProgram (h .settings) (h .cursor) now tag reading) ws) .1) (head-is i)) in
-      subst (λ (us : List ℕ). Moved ws us (enters a (Update now tag reading))) (sym after)
-      (ran {b = enters a (Update now tag reading)} (updateProgram s c now tag reading) (update-safe c f (i .rest) now (k .later) (k .ends) tag (w .known) (w .stands) reading (w .left)) (update-head s c now f tag reading)
-      z (λ t g o. sym (readings-update (a .log) now tag reading t g))
-      (once-update now tag (i .once) reading)
+      subst (λ (us : List ℕ). Honest us (enters a (Update now tag reading))) (sym after)
+      (ran (updateProgram s c now tag reading) (update-over head-sound f now tag (w .known) (w .stands) reading sound (w .left)) (update-head s c now f tag reading)
+      (update-clock s c now f tag reading) z (λ t g o. sym (readings-update (a .log) now tag reading t g))
+      (once-update now tag (i .once) reading) (timed-more (Update now tag reading) (timed-by (k .later)) (omega arith) (i .timed))
       (booked-update c f (i .rest) (i .booked) now (k .later) (k .ends) tag reading (w .stands))
       (counted-update now tag (omega (arith, k .ends)) (i .counted)))
 
 -- ---- a start, on any words
-pub honest-start : (ws : List ℕ) (b q blocks tags : ℕ) → All (λ y. y .applies ≡ false) (testsOf ws (Start b q blocks tags))
-    → Honest (step ws (Start b q blocks tags) .store) (opening b q)
+pub honest-start : (ws : List ℕ) (s : Settings) → All (λ y. y .applies ≡ false) (testsOf ws (Start s)) → Honest (step ws (Start s) .store) (opening s)
 unfolding start
-honest-start ws b q blocks tags p = go p
+honest-start ws s p = go p
   where
-    s : Settings
-    s = record { block = b; useful = q; blocks = blocks; tags = tags }
-
-    go : All (λ y. y .applies ≡ false) (testsOf ws (Start b q blocks tags)) → Honest (step ws (Start b q blocks tags) .store) (opening b q)
+    go : All (λ y. y .applies ≡ false) (testsOf ws (Start s)) → Honest (step ws (Start s) .store) (opening s)
     go (cons x₁ (cons x₂ (cons x₄ nil))) =
         let w = limits-within s (not-false _ x₁) in
         let long = ltb-false (length ws) (layoutLen s) x₄ in
-        let after : step ws (Start b q blocks tags) .store ≡ withHead (freshHead s) (cleared s ws) = rw (refusal-none p) in
-        subst (λ (us : List ℕ). Honest us (opening b q)) (sym after) (record {
-          settings = s;
+        let after : step ws (Start s) .store ≡ withHead (freshHead s) (cleared s ws) = rw (refusal-none p) in
+        subst (λ (us : List ℕ). Honest us (opening s)) (sym after) (record {
           cursor = freshHead s .cursor;
           memory = freshMemory s;
           stored = started s ws long w (ltb-false (length ws) headLen x₂);
+          clock = refl;
           rest = rest-fresh s (freshMemory s) w (fresh-blank s);
           once = once-empty;
+          timed = timed-none;
           booked = booked-fresh s (freshMemory s);
-          counted = counted-empty b q;
+          counted = counted-empty s;
         })
 
 -- ---- any call
 module _ {ws : List ℕ} {a : Account} (i : Honest ws a) where
   -- an accepted one
   honest-accepted : (x : Call) → All (λ y. y .applies ≡ false) (testsOf ws x) → Honest (step ws x .store) (enters a x)
-  honest-accepted (Start b q blocks tags) p = honest-start ws b q blocks tags p
-  honest-accepted (Set now tag reading) p = honest-set i now tag reading p .honest
-  honest-accepted (Clear now tag) p = honest-clear i now tag p .honest
-  honest-accepted (Update now tag reading) p = honest-update i now tag reading p .honest
-  honest-accepted (Advance now) p = honest-advance i now p .honest
-  honest-accepted (LookBack t rows list) p = subst (λ (us : List ℕ). Honest us a) (sym (look-back-keeps ws t rows list)) i
-
-  small-accepted : (x : Call) → Change x → All (λ y. y .applies ≡ false) (testsOf ws x) → Small ws (step ws x .store)
-  small-accepted (Start b q blocks tags) k p = absurd k
-  small-accepted (Set now tag reading) k p = honest-set i now tag reading p .small
-  small-accepted (Clear now tag) k p = honest-clear i now tag p .small
-  small-accepted (Update now tag reading) k p = honest-update i now tag reading p .small
-  small-accepted (Advance now) k p = honest-advance i now p .small
-  small-accepted (LookBack t rows list) k p = subst (λ (us : List ℕ). Small ws us) (sym (look-back-keeps ws t rows list)) (small-same ws)
+  honest-accepted (Start s) p = honest-start ws s p
+  honest-accepted (Set now tag reading) p = honest-set i now tag reading p
+  honest-accepted (Clear now tag) p = honest-clear i now tag p
+  honest-accepted (Update now tag reading) p = honest-update i now tag reading p
+  honest-accepted (Advance now) p = honest-advance i now p
+  honest-accepted (Ask q) p = i
 
   -- a refused one leaves the words, and book, log and counts
   pub honest-step : (x : Call) → Honest (step ws x .store) (cond (accepted (step ws x .answer)) (enters a x) a)
@@ -281,15 +283,3 @@ module _ {ws : List ℕ} {a : Account} (i : Honest ws a) where
       go (Done h) q = honest-accepted x (e .accepted-iff .0 (ap accepted q))
       go (Shown v) q = honest-accepted x (e .accepted-iff .0 (ap accepted q))
       go (Refused n) q = subst (λ (us : List ℕ). Honest us a) (sym (e .store-kept n q)) i
-
-  -- and one change opens at most one block and closes at most two
-  pub small-step : (x : Call) → Change x → Small ws (step ws x .store)
-  small-step x k = go (step ws x .answer) refl
-    where
-      e : EveryCall ws x
-      e = every-call ws x
-
-      go : (r : Answer) → step ws x .answer ≡ r → Small ws (step ws x .store)
-      go (Done h) q = small-accepted x k (e .accepted-iff .0 (ap accepted q))
-      go (Shown v) q = small-accepted x k (e .accepted-iff .0 (ap accepted q))
-      go (Refused n) q = subst (λ (us : List ℕ). Small ws us) (sym (e .store-kept n q)) (small-same ws)

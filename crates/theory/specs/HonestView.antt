@@ -1,17 +1,21 @@
 -- AN ANSWERED LOOK-BACK ON HONEST WORDS: its rows are the log's at t, each condition once; its list keeps the bounds by the blocks that the book has
 -- open at t.
 use mathlib.Core.Path.{_≡_, sym, ap, _∙_}
+use mathlib.Core.Bool.{false}
 use mathlib.Core.List.{List}
 use Prim.Native.Nat.{ℕ, _+_, _*_, _≤_, _<_}
 use native.Mathlib.Omega.{arith}
 use lib.ListN.{length}
+use borrow.Author.Tests.{leb-false}
+use Rattle.base.specs.Sums.{All, cons}
 use Rattle.base.specs.SameRows.{Same, same-perm}
 use Rattle.layout.specs.declared.settings.Settings.{Settings}
 use Rattle.layout.specs.declared.head.Cursor.{Cursor}
 use Rattle.layout.specs.Sizes.{OPEN}
 use Rattle.layout.specs.Memory.{Memory}
-use Rattle.calls.specs.Calls.{LookBack, Row, View, Shown, accepted}
-use Rattle.calls.specs.Step.{step, reader}
+use Rattle.calls.specs.Calls.{Ask, LookBack, Row, View, Shown, accepted}
+use Rattle.calls.specs.LookBack.{reader}
+use Rattle.calls.specs.Step.{step, testsOf}
 use Rattle.calls.specs.Book.{openAt}
 use Rattle.calls.specs.Log.{stateAt}
 use Rattle.calls.specs.History.{Account}
@@ -24,16 +28,17 @@ use Rattle.theory.specs.EnoughRows.{rows-enough}
 use Rattle.theory.specs.BookCalls.{booked-useful, booked-open-at}
 use Rattle.theory.specs.Right.{RightLook, blocksOpen}
 use Rattle.theory.specs.ViewClaims.{view-claims}
-use Rattle.theory.specs.LookAnswers.{answered-iff, walk-right}
+use Rattle.theory.specs.LookAnswers.{walk-right}
+use Rattle.theory.specs.EveryLookBack.{every-call}
 use Rattle.theory.specs.LookReady.{weigh-records, rows-are}
-use Rattle.theory.specs.Honest.{Honest, head-is, sound, answers, before-open}
+use Rattle.theory.specs.Honest.{Honest, head-is, sound}
 
 same-bound : {x y q r : ℕ} (n : ℕ) → x ≡ y → q ≡ r → x * q ≤ n + q → y * r ≤ n + r
 same-bound n e g h = rw (e, g) at h
 
 module _ {ws : List ℕ} {a : Account} (i : Honest ws a) (t : ℕ) where
   abbrev s : Settings
-  s = i .settings
+  s = a .settings
 
   abbrev c : Cursor
   c = i .cursor
@@ -57,11 +62,14 @@ module _ {ws : List ℕ} {a : Account} (i : Honest ws a) (t : ℕ) where
         rw (rows-are (i .stored) (i .rest .full .state) t n l (omega arith))
         (rows-enough (i .rest .full .state .kept) (i .rest .full .useful .at t n l h x y o (λ e. absurd (omega arith))))))
 
-  pub answered : (rows list : List ℕ) (v : View) → step ws (LookBack t rows list) .answer ≡ Shown v → Answered ws a t rows list v
+  -- an answered look-back is asked for a second
+  second : (rows list : List ℕ) → All (λ x. x .applies ≡ false) (testsOf ws (Ask (LookBack t rows list))) → t < OPEN
+  second rows list (cons x₂ (cons x₃ (cons x₄ (cons x₅ r)))) = leb-false OPEN t x₅
+
+  pub answered : (rows list : List ℕ) (v : View) → step ws (Ask (LookBack t rows list)) .answer ≡ Shown v → Answered ws a t rows list v
   answered rows list v e =
       let k = view-claims ws t rows list v e in
-      let asked = answered-iff (answers i) t rows list .0 (ap accepted e) in
-      let o = before-open i t (asked .past) in
+      let o = second rows list (every-call ws (Ask (LookBack t rows list)) .accepted-iff .0 (ap accepted e)) in
       let w : RightLook (s .block) (c .opened) t (reader ws) (view c f) (v .rows) (v .list) = rw (head-is i) at (walk-right ws (sound i t o) (k .walk .1)) in
       record {
         walk = k .walk;
@@ -73,6 +81,5 @@ module _ {ws : List ℕ} {a : Account} (i : Honest ws a) (t : ℕ) where
         rows-counted = k .rows-counted;
         pages-counted = k .pages-counted;
         blocks-counted = k .blocks-counted;
-        rows-given = k .rows-given;
-        list-given = k .list-given;
+        given = k .given;
       }

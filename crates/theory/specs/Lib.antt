@@ -17,21 +17,20 @@ pub mod Moving
 pub mod Useful
 pub mod Rolling
 pub mod Changing
-pub mod Growth
 pub mod Fresh
 pub mod Copies
 pub mod Rest
-pub mod Closings
--- Every address of an accepted change, and refusals 12 and 13
-pub mod SafeParts
-pub mod SafeLaws
-pub mod SafeCalls
+-- The closed words along a change, on any memory
+pub mod Closed
+pub mod Foretelling
+-- Refusal 12 has no case on a register at rest
 pub mod Sound
 -- The plain log
 pub mod SumLaws
 pub mod MemberLaws
 pub mod Joined
 pub mod LogLaws
+pub mod SoFar
 pub mod RecordRows
 pub mod EnoughRows
 -- The block book
@@ -60,16 +59,20 @@ pub mod StoreAlike
 pub mod LookAnswers
 pub mod LookLinks
 -- Words that hold a memory, and every call on any words
+pub mod TestLaws
 pub mod HeadKept
 pub mod Stored
 pub mod Started
+pub mod OneChange
+pub mod AnyChange
 pub mod EveryCall
+pub mod QueryLaws
 pub mod EveryLookBack
 -- Words after a history, and the theorems
 pub mod LookReady
 pub mod Honest
 pub mod HonestView
-pub mod SmallSteps
 pub mod HonestStep
-pub mod Never
+pub mod ByAccount
+pub mod Meanings
 pub mod Whole

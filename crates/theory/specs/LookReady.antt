@@ -22,7 +22,7 @@ use Rattle.layout.specs.PartsLaws.{block-word, slot-word, page-word}
 use Rattle.layout.specs.OverLaws.{over-read}
 use Rattle.calls.specs.Calls.{Row}
 use Rattle.calls.specs.Walk.{entries}
-use Rattle.calls.specs.Step.{reader}
+use Rattle.calls.specs.LookBack.{reader}
 use Rattle.theory.specs.Tree.{View}
 use Rattle.theory.specs.Effects.{view, closed-word}
 use Rattle.theory.specs.State.{shape, State, NoneDue}

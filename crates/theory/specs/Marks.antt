@@ -80,9 +80,6 @@ pub data Pending (f : Records) (x : ℕ) : ℕ → List ℕ → Type 0 where
   one-more : {lo k : ℕ} {l : List ℕ} → lo ≤ k → f x k .to ≡ OPEN → ((j : ℕ) → lo ≤ j → j < k → f x j .to ≢ OPEN) → Pending f x (k + 1) l
       → Pending f x lo (k ∷ l)
 
-pub pending-head : {f : Records} {x lo k : ℕ} {l : List ℕ} → Pending f x lo (k ∷ l) → f x k .to ≡ OPEN
-pending-head (one-more a o h p) = o
-
 pub pending-frame : {f g : Records} {x lo : ℕ} {l : List ℕ} → ((k : ℕ) → lo ≤ k → g x k ≡ f x k) → Pending f x lo l → Pending g x lo l
 pending-frame e (no-more h) = no-more (λ k a. rw (e k a) (h k a))
 pending-frame e (one-more {k = k} a o h p) =

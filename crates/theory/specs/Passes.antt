@@ -14,7 +14,7 @@ use Rattle.base.specs.Sums.{All, nil, cons, all-map, upto, upto-suc, upto-none}
 use Rattle.layout.specs.Sizes.{OPEN, pageLen}
 use Rattle.calls.specs.Calls.{Row}
 use Rattle.calls.specs.Walk.{Reader, Pass, entries, topLevel, lookUp, looked, look}
-use Rattle.calls.specs.Step.{passedOn, viewOf}
+use Rattle.calls.specs.LookBack.{passedOn, viewOf}
 use Rattle.calls.specs.Claims.{passedPages}
 use Rattle.theory.specs.FoundSearch.{Descent, ground, down, Search, empty, before, onto}
 use Rattle.theory.specs.SearchLaws.{Last, nowhere, at, last-is, top-below}

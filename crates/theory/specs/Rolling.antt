@@ -155,7 +155,6 @@ pub record Rolled (s : Settings) (Due : ℕ → Type 0) (now : ℕ) (log : Timel
   pub low : 1 ≤ T .opened
   pub room : T .fill < s .block
   pub stays : 1 ≤ S .opened → S .fill < s .block → T ≡ S
-  pub rolls : (1 ≤ S .opened → S .fill ≡ s .block) → (T .opened ≡ S .opened + 1) × (T .fill ≤ s .useful)
 
 -- room is made where there is no block, or the acceptor is full
 pub no-room : (s : Settings) (c : Cursor) → (eqb (c .opened) 0 || eqb (c .fill) (s .block)) ≡ true → 1 ≤ c .opened → c .fill ≡ s .block
@@ -199,7 +198,6 @@ module _ {s : Settings} {Due : ℕ → Type 0} {clock : ℕ} {log : Timeline} (c
         low = omega (arith, o .opened);
         room = omega (arith, o .fill, w .least);
         stays = λ y r. absurd (omega (arith, full y));
-        rolls = λ _. (o .opened, omega (arith, o .fill));
       })
       (λ t.
       let j = judge-law (z .0) (z .1) (c .opened) now (o .state) (o .useful) w (omega (arith, eqb-false (c .opened) 0 t)) (omega (arith, o .opened))
@@ -210,7 +208,6 @@ module _ {s : Settings} {Due : ℕ → Type 0} {clock : ℕ} {log : Timeline} (c
         low = omega (arith, j .opened, o .opened);
         room = omega (arith, j .room, o .fill, w .half, w .some);
         stays = λ y r. absurd (omega (arith, full y));
-        rolls = λ _. (omega (arith, j .opened, o .opened), omega (arith, j .room, o .fill));
       })
 
   pub room-law : let z = runOn (makeRoom s c now) f in Rolled s Due now log (shape c f) (shape (z .0) (z .1))
@@ -227,5 +224,4 @@ module _ {s : Settings} {Due : ℕ → Type 0} {clock : ℕ} {log : Timeline} (c
         low = some;
         room = omega (arith, eqb-false (c .fill) (s .block) (d .1), i .fits);
         stays = λ y r. refl;
-        rolls = λ g. absurd (eqb-false (c .fill) (s .block) (d .1) (g some));
       })

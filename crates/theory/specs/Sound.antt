@@ -21,8 +21,6 @@ use Rattle.layout.specs.Fields.{upWord, rightWord, tagWord}
 use Rattle.layout.specs.Address.{Valid, Numbered}
 use Rattle.layout.specs.Memory.{Memory}
 use Rattle.layout.specs.Interp.{Same}
-use Rattle.layout.specs.ProgramLaws.{Agree}
-use Rattle.layout.specs.OnWords.{over}
 use Rattle.layout.specs.Head.{placed}
 use Rattle.layout.specs.declared.standing.Standing.{Standing}
 use Rattle.layout.specs.Standing.{stands}
@@ -36,11 +34,6 @@ use Rattle.theory.specs.Changing.{place-stands, open-block}
 use Rattle.theory.specs.Copies.{headWith, copiesOf}
 use Rattle.theory.specs.Rest.{Rest}
 
--- words that hold a memory over the interpreter that contracts name
-pub agree-same : {s : Settings} {ws : List ℕ} {f : Memory} → Agree (over s) ws f → Same (over s .read ws) (Valid s) f
-unfolding over
-agree-same a = a .same
-
 -- ---- tests that are false
 and-no : (a : Bool) {b : Bool} → b ≡ false → (a && b) ≡ false
 and-no true e = e
@@ -50,7 +43,7 @@ or-no : {a b : Bool} → a ≡ false → b ≡ false → (a || b) ≡ false
 or-no e f = rw (e, f)
 
 -- ---- the bit of a slot, by word
-stands-is : (w : ℕ → ℕ) (k : ℕ) → k < 64 → bitOf w k ≡ 1 → stands (record { low = w 0; high = w 1 }) k ≡ true
+pub stands-is : (w : ℕ → ℕ) (k : ℕ) → k < 64 → bitOf w k ≡ 1 → stands (record { low = w 0; high = w 1 }) k ≡ true
 unfolding stands
 stands-is w k a h = lt? k 32
     (λ b.

@@ -1,11 +1,9 @@
 -- A store alike, on any words: one with the same length, head, index pages passed and listed blocks gets the same answer to a look-back, both buffers'
 -- final words included (store-alike). The refusals see only length and head; the walk sees only the pages passed and the listed blocks.
-use mathlib.Core.Path.{_≡_, refl, sym, ap, _∙_}
-use mathlib.Core.Bool.{Bool, true, false, _||_}
-use mathlib.Core.List.{List}
+use mathlib.Core.Path.{_≡_, sym, ap, _∙_}
+use mathlib.Core.List.{List, [], _∷_}
 use Prim.Native.Nat.{ℕ, _<_}
 use native.Mathlib.Omega.{arith}
-use lib.Dec.{eqb}
 use lib.ListN.{length, getD, take}
 use lib.Seq.{getD-take}
 use Rattle.base.specs.Sums.{all-map}
@@ -14,12 +12,12 @@ use Rattle.layout.specs.Sizes.{OPEN, headLen}
 use Rattle.layout.specs.Head.{headOf, badHead}
 use Rattle.layout.specs.Parts.{blockPart}
 use Rattle.calls.specs.Calls.{View}
-use Rattle.calls.specs.Walk.{Pass, Looked, unsoundly, looked}
-use Rattle.calls.specs.Step.{reader, lookAt, lookBack}
+use Rattle.calls.specs.Walk.{Pass}
+use Rattle.calls.specs.LookBack.{SliceReply, reader, lookAt, lookBack}
 use Rattle.calls.specs.Claims.{Alike, StoreAlike}
 use Rattle.theory.specs.AlikeReaders.{SameBlock, SamePage, look-alike}
 use Rattle.theory.specs.Passes.{PassTold, passed-pages, page-word}
-use Rattle.theory.specs.ViewClaims.{Seen, shown-seen, refusedBy, replyTo, few-blocks}
+use Rattle.theory.specs.ViewClaims.{Seen, shown-seen, few-blocks}
 
 -- ---- the head is in the first 16 words
 
@@ -56,31 +54,13 @@ module _ (ws ws′ : List ℕ) (e : take headLen ws′ ≡ take headLen ws) wher
         word-same 15 (omega arith),
       )
 
--- ---- the reply is the same but for the store
-
-reply-same : (ws ws′ rows list : List ℕ) (w : Looked) (n : ℕ) (c : Bool) → replyTo ws′ rows list w n c ≡ record {
-  answer = replyTo ws rows list w n c .answer;
-  store = ws′;
-  rows = replyTo ws rows list w n c .rows;
-  list = replyTo ws rows list w n c .list;
-}
-reply-same ws ws′ rows list unsoundly n true = refl
-reply-same ws ws′ rows list (looked r l ps) n true = refl
-reply-same ws ws′ rows list unsoundly n false = refl
-reply-same ws ws′ rows list (looked r l ps) n false = refl
+-- ---- the reply is the same
 
 module _ (ws ws′ : List ℕ) (t : ℕ) (rows list : List ℕ) where
   look-back-same : length ws′ ≡ length ws → headOf ws′ ≡ headOf ws → badHead ws′ ≡ badHead ws → lookAt ws′ t ≡ lookAt ws t
-      → lookBack ws′ t rows list ≡ record {
-        answer = lookBack ws t rows list .answer;
-        store = ws′;
-        rows = lookBack ws t rows list .rows;
-        list = lookBack ws t rows list .list;
-      }
+      → lookBack ws′ t rows list ≡ lookBack ws t rows list
   unfolding lookBack
-  look-back-same long head bad walk =
-      let n = refusedBy ws t rows list (lookAt ws t) in
-      rw (walk, long, head, bad) (reply-same ws ws′ rows list (lookAt ws t) n (eqb n 0 || eqb n 12))
+  look-back-same long head bad walk = rw (walk, long, head, bad)
 
   -- ---- the walk is the same
 
@@ -118,5 +98,6 @@ store-alike ws t rows list = record {
   same-answer = λ ws′ v e a.
       let x = shown-seen ws t rows list v e in
       let head = head-same ws ws′ (a .head) in
-      rw e at (look-back-same ws ws′ t rows list (a .long) head (bad-head-same ws ws′ (a .head)) (walk-same ws ws′ t rows list v x a));
+      let same = look-back-same ws ws′ t rows list (a .long) head (bad-head-same ws ws′ (a .head)) (walk-same ws ws′ t rows list v x a) in
+      λ i. record { answer = (ap (λ (r : SliceReply). r .answer) same ∙ e) i; store = ws′; lent = same i .rows ∷ same i .list ∷ [] };
 }

@@ -2,7 +2,7 @@
 -- its three numbers count rows, pages and blocks, and the buffers hold rows and list.
 use mathlib.Core.Path.{_≡_, refl, ap, _∙_, sym}
 use mathlib.Core.Bool.{Bool, true, false, cond, not, _||_, false≢true}
-use mathlib.Core.List.{List, List·Nodup}
+use mathlib.Core.List.{List, [], _∷_, List·Nodup}
 use Prim.Native.Nat.{ℕ, _≤_}
 use native.Mathlib.Omega.{arith}
 use lib.Dec.{eqb, ltb}
@@ -15,10 +15,11 @@ use Rattle.layout.specs.Fields.{headMark}
 use Rattle.layout.specs.Settings.{inLimits}
 use Rattle.layout.specs.SettingsLaws.{limits-within}
 use Rattle.layout.specs.Head.{headOf, badHead, fillFits, spareZero}
-use Rattle.calls.specs.Calls.{LookBack, View, Shown, Refused, Reply}
+use Rattle.calls.specs.Calls.{Ask, LookBack, View, Shown, Refused}
 use Rattle.calls.specs.Walk.{Pass, Looked, unsoundly, looked}
 use Rattle.calls.specs.Refusals.{refusal, lookBackTests}
-use Rattle.calls.specs.Step.{step, reader, lookAt, lookBack, viewOf, rowWords, written, isUnsound, seen}
+use Rattle.calls.specs.LookBack.{SliceReply, reader, lookAt, lookBack, viewOf, rowWords, written, isUnsound, seen}
+use Rattle.calls.specs.Step.{step}
 use Rattle.calls.specs.Claims.{passedPages}
 use Rattle.theory.specs.Listed.{path-apart}
 use Rattle.theory.specs.Looking.{look-parts}
@@ -34,7 +35,6 @@ pub record Seen (ws : List ℕ) (t : ℕ) (rows list : List ℕ) (v : View) : Ty
   pub passed : badHead ws ≡ false
   pub reply : lookBack ws t rows list ≡ record {
     answer = Shown v;
-    store = ws;
     rows = written (rowWords (v .rows)) rows;
     list = written (v .list) list;
   }
@@ -43,8 +43,8 @@ pub record Seen (ws : List ℕ) (t : ℕ) (rows list : List ℕ) (v : View) : Ty
 abbrev pub refusedBy : List ℕ → ℕ → List ℕ → List ℕ → Looked → ℕ
 refusedBy ws t rows list w = refusal (lookBackTests ws t (length rows) (length list) (isUnsound w))
 
-abbrev pub replyTo : List ℕ → List ℕ → List ℕ → Looked → ℕ → Bool → Reply
-replyTo ws rows list w n c = cond c (seen ws rows list w) (record { answer = Refused n; store = ws; rows = rows; list = list })
+abbrev pub replyTo : List ℕ → List ℕ → Looked → ℕ → Bool → SliceReply
+replyTo rows list w n c = cond c (seen rows list w) (record { answer = Refused n; rows = rows; list = list })
 
 never : {A : Type 0} {n : ℕ} {v : View} → Refused n ≡ Shown v → A
 never e = absurd (let z : _≡_ {A = ℕ} 0 1 = cc in omega arith)
@@ -58,16 +58,16 @@ head-passed false false n e = refl
 
 module _ (ws : List ℕ) (t : ℕ) (rows list : List ℕ) (v : View) where
   -- what is shown comes from a test that passed
-  shown-by : (w : Looked) (n : ℕ) (c : Bool) → replyTo ws rows list w n c .answer ≡ Shown v → (c ≡ true) × (seen ws rows list w .answer ≡ Shown v)
+  shown-by : (w : Looked) (n : ℕ) (c : Bool) → replyTo rows list w n c .answer ≡ Shown v → (c ≡ true) × (seen rows list w .answer ≡ Shown v)
   shown-by w n true e = (refl, e)
   shown-by w n false e = never e
 
-  pub shown-seen : step ws (LookBack t rows list) .answer ≡ Shown v → Seen ws t rows list v
+  pub shown-seen : step ws (Ask (LookBack t rows list)) .answer ≡ Shown v → Seen ws t rows list v
   unfolding lookBack
   shown-seen e = from-walk (lookAt ws t) refl e
     where
       from-walk : (w : Looked) → lookAt ws t ≡ w
-          → (let n = refusedBy ws t rows list w in replyTo ws rows list w n (eqb n 0 || eqb n 12)) .answer ≡ Shown v
+          → (let n = refusedBy ws t rows list w in replyTo rows list w n (eqb n 0 || eqb n 12)) .answer ≡ Shown v
           → Seen ws t rows list v
       from-walk unsoundly i e =
           let n = refusedBy ws t rows list unsoundly in
@@ -105,10 +105,9 @@ pub record ViewClaims (ws : List ℕ) (t : ℕ) (rows list : List ℕ) (v : View
   pub rows-counted : v .counts .rows ≡ length (v .rows)
   pub pages-counted : v .counts .pages ≡ passedPages (v .pages)
   pub blocks-counted : v .counts .blocks ≡ length (v .list)
-  pub rows-given : step ws (LookBack t rows list) .rows ≡ written (rowWords (v .rows)) rows
-  pub list-given : step ws (LookBack t rows list) .list ≡ written (v .list) list
+  pub given : step ws (Ask (LookBack t rows list)) .lent ≡ written (rowWords (v .rows)) rows ∷ written (v .list) list ∷ []
 
-pub view-claims : (ws : List ℕ) (t : ℕ) (rows list : List ℕ) (v : View) → step ws (LookBack t rows list) .answer ≡ Shown v → ViewClaims ws t rows list v
+pub view-claims : (ws : List ℕ) (t : ℕ) (rows list : List ℕ) (v : View) → step ws (Ask (LookBack t rows list)) .answer ≡ Shown v → ViewClaims ws t rows list v
 unfolding lookAt
 view-claims ws t rows list v e =
     let x = shown-seen ws t rows list v e in
@@ -121,6 +120,5 @@ view-claims ws t rows list v e =
       rows-counted = ap (λ (v : View). v .counts .rows) (x .view);
       pages-counted = ap (λ (v : View). v .counts .pages) (x .view) ∙ sym (ap (λ (v : View). passedPages (v .pages)) (x .view) ∙ counted);
       blocks-counted = ap (λ (v : View). v .counts .blocks) (x .view);
-      rows-given = ap (λ (r : Reply). r .rows) (x .reply);
-      list-given = ap (λ (r : Reply). r .list) (x .reply);
+      given = ap (λ (r : SliceReply). r .rows ∷ r .list ∷ []) (x .reply);
     }

@@ -1,30 +1,38 @@
 -- THE THEOREMS: demand 3 for every list of calls from a fresh register (whole-list), and demand 2, which follows from it (demand-2). Every call on any
--- words is in EveryLookBack (every-call), a store alike in StoreAlike (store-alike).
+-- words is in EveryLookBack (every-call), a store alike in StoreAlike (store-alike), any block's words in Meanings (any-block).
 use mathlib.Core.Path.{_≡_}
 use mathlib.Core.Bool.{true, cond}
 use mathlib.Core.List.{List, [], _∷_}
 use Prim.Native.Nat.{ℕ}
+use Rattle.layout.specs.declared.settings.Settings.{Settings}
 use Rattle.calls.specs.Calls.{Call, Start, accepted}
 use Rattle.calls.specs.Step.{step}
 use Rattle.calls.specs.History.{Account, opening, enters, account, wordsAfter, trace}
 use Rattle.calls.specs.Claims.{Holds, WholeList, Demand2}
+use Rattle.theory.specs.SoFar.{so-far}
 use Rattle.theory.specs.EveryLookBack.{every-call}
 use Rattle.theory.specs.StoreAlike.{store-alike}
-use Rattle.theory.specs.LookAnswers.{answered-iff}
-use Rattle.theory.specs.Honest.{Honest, agrees, bound, answers}
+use Rattle.theory.specs.Honest.{Honest, agrees, bound}
 use Rattle.theory.specs.HonestView.{answered}
-use Rattle.theory.specs.HonestStep.{honest-start, honest-step, small-step}
-use Rattle.theory.specs.Never.{never-unsound}
+use Rattle.theory.specs.HonestStep.{honest-start, honest-step}
+use Rattle.theory.specs.ByAccount.{settings-is, clock-is, allowed-iff, refused-by, never-unsound, answered-iff, brief}
+use Rattle.theory.specs.Meanings.{means}
 
 -- what honest words are claimed to be
 holds : {ws : List ℕ} {a : Account} → Honest ws a → Holds ws a
 holds {ws} i = record {
+  settings = settings-is i;
+  clock = clock-is i;
   agrees = agrees i;
   bound = bound i;
   never-unsound = never-unsound i;
-  answered-iff = answered-iff (answers i);
+  accepted-iff = allowed-iff i;
+  refused-first = refused-by i;
+  answered-iff = answered-iff i;
   answered = answered i;
-  small = small-step i;
+  so-far = so-far (i .timed);
+  brief = brief i;
+  means = means i;
   alike = store-alike ws;
 }
 
@@ -34,20 +42,17 @@ honest-list ws a [] i = i
 honest-list ws a (c ∷ l) i = honest-list (step ws c .store) (cond (accepted (step ws c .answer)) (enters a c) a) l (honest-step i c)
 
 -- a fresh register
-fresh : (ws : List ℕ) (b q blocks tags : ℕ) → accepted (step ws (Start b q blocks tags) .answer) ≡ true
-    → Honest (step ws (Start b q blocks tags) .store) (opening b q)
-fresh ws b q blocks tags e = honest-start ws b q blocks tags (every-call ws (Start b q blocks tags) .accepted-iff .0 e)
+fresh : (ws : List ℕ) (s : Settings) → accepted (step ws (Start s) .answer) ≡ true → Honest (step ws (Start s) .store) (opening s)
+fresh ws s e = honest-start ws s (every-call ws (Start s) .accepted-iff .0 e)
 
 -- DEMAND 3: after any list of calls from a fresh register.
-pub whole-list : (ws : List ℕ) (b q blocks tags : ℕ) (calls : List Call) → WholeList ws b q blocks tags calls
-whole-list ws b q blocks tags calls = record {
-  after = λ e. holds (honest-list (step ws (Start b q blocks tags) .store) (opening b q) calls (fresh ws b q blocks tags e));
-}
+pub whole-list : (ws : List ℕ) (s : Settings) (calls : List Call) → WholeList ws s calls
+whole-list ws s calls = record { after = λ e. holds (honest-list (step ws (Start s) .store) (opening s) calls (fresh ws s e)) }
 
 -- DEMAND 2.
-pub demand-2 : (ws : List ℕ) (b q blocks tags : ℕ) (calls : List Call) → Demand2 ws b q blocks tags calls
-demand-2 ws b q blocks tags calls = record {
+pub demand-2 : (ws : List ℕ) (s : Settings) (calls : List Call) → Demand2 ws s calls
+demand-2 ws s calls = record {
   accepted-iff = λ words c. every-call words c .accepted-iff;
-  never-unsound = λ e. whole-list ws b q blocks tags calls .after e .never-unsound;
-  log = λ e t rows list v s. let a = whole-list ws b q blocks tags calls .after e .answered t rows list v s in (a .log, a .once);
+  never-unsound = λ e. whole-list ws s calls .after e .never-unsound;
+  log = λ e t rows list v q. let a = whole-list ws s calls .after e .answered t rows list v q in (a .log, a .once);
 }

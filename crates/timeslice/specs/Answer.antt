@@ -7,15 +7,15 @@ use lib.Dec.{ltb}
 use lib.ListN.{getD}
 use Rattle.layout.specs.declared.head.Head.{Head}
 use Rattle.layout.specs.Sizes.{OPEN, rowLen, layoutLen}
-use Rattle.calls.specs.Calls.{Row, View, Answer, Done, Shown, Refused as RefusedBy}
-use Rattle.calls.specs.Walk.{Pass, Looked as Walked, unsoundly, looked}
+use Rattle.calls.specs.Calls.{Row, View, Answer, Shown, Refused as RefusedBy}
+use Rattle.calls.specs.Walk.{Pass, Looked as LookedAt, unsoundly, looked}
 use Rattle.calls.specs.Refusals.{Test, isOpen}
-use Rattle.calls.specs.Step.{lookBack, lookAt, seen, viewOf, rowWords, written}
+use Rattle.calls.specs.LookBack.{lookBack, lookAt, seen, viewOf, rowWords, written}
 use Rattle.timeslice.specs.declared.Slice.{Slice}
 use Rattle.timeslice.specs.declared.Looked.{Looked}
 use Rattle.timeslice.specs.declared.Looked.the-variants.{Answered, Refused}
-use Rattle.timeslice.specs.declared.Seen.{Seen}
-use Rattle.timeslice.specs.declared.Seen.the-variants.{Whole, Unsound}
+use Rattle.timeslice.specs.declared.Sliced.{Sliced}
+use Rattle.timeslice.specs.declared.Sliced.the-variants.{Whole, Unsound}
 
 -- a view's three numbers, and its page on each of the three levels
 abbrev pub sliceOf : View → Slice
@@ -26,31 +26,29 @@ sliceOf v = record {
   page2 = getD (v .pages) 2 OPEN;
 }
 
--- A view is answered, a refusal has its number. (No look-back answers with a head.)
-abbrev pub answerOf : Answer → Looked
-answerOf (Done h) = Refused 0
-answerOf (Shown v) = Answered (sliceOf v)
-answerOf (RefusedBy n) = Refused n
+-- A view is answered, a refusal has its number. No look-back answers with a head.
+pub data Says : Answer → Looked → Type 0 where
+  view : {v : View} {s : Slice} → s ≡ sliceOf v → Says (Shown v) (Answered s)
+  number : {n : ℕ} → Says (RefusedBy n) (Refused n)
 
--- The contract: the answer, and all lent words as the call leaves them.
+-- The contract: the answer, and both buffers as the call leaves them. (The store is lent to be read only.)
 pub record LookedBack (ws : List ℕ) (t : ℕ) (rows list : List ℕ) (r : Looked) (rows′ list′ : List ℕ) : Type 0 where
-  pub answer : r ≡ answerOf (lookBack ws t rows list .answer)
+  pub answer : Says (lookBack ws t rows list .answer) r
   pub row-words : rows′ ≡ lookBack ws t rows list .rows
   pub list-words : list′ ≡ lookBack ws t rows list .list
-  pub store-words : ws ≡ lookBack ws t rows list .store
 
 -- ---- the parts
 -- what the walk over the words says: its rows and list at the start of the buffers, or that it is unsound, the buffers being anything
-pub data Sees (w : Walked) (rows list : List ℕ) : Seen → List ℕ → List ℕ → Type 0 where
+pub data Slices (w : LookedAt) (rows list : List ℕ) : Sliced → List ℕ → List ℕ → Type 0 where
   whole : {r : List Row} {l : List ℕ} {ps : List Pass} {s : Slice} {rows′ list′ : List ℕ} → w ≡ looked r l ps → s ≡ sliceOf (viewOf r l ps)
-      → rows′ ≡ written (rowWords r) rows → list′ ≡ written l list → Sees w rows list (Whole s) rows′ list′
-  broken : {rows′ list′ : List ℕ} → w ≡ unsoundly → Sees w rows list Unsound rows′ list′
+      → rows′ ≡ written (rowWords r) rows → list′ ≡ written l list → Slices w rows list (Whole s) rows′ list′
+  broken : {rows′ list′ : List ℕ} → w ≡ unsoundly → Slices w rows list Unsound rows′ list′
 
 -- a look-back to which no refusal but 12 applies
 pub record Answers (ws : List ℕ) (t : ℕ) (rows list : List ℕ) (r : Looked) (rows′ list′ : List ℕ) : Type 0 where
-  pub answer : r ≡ answerOf (seen ws rows list (lookAt ws t) .answer)
-  pub row-words : rows′ ≡ seen ws rows list (lookAt ws t) .rows
-  pub list-words : list′ ≡ seen ws rows list (lookAt ws t) .list
+  pub answer : Says (seen rows list (lookAt ws t) .answer) r
+  pub row-words : rows′ ≡ seen rows list (lookAt ws t) .rows
+  pub list-words : list′ ≡ seen rows list (lookAt ws t) .list
 
 -- the refusals between the head's and the walk's, for a store, a row buffer and a list of these lengths
 abbrev pub ownTests : Head → ℕ → ℕ → ℕ → ℕ → List Test

@@ -2,43 +2,42 @@
 use mathlib.Core.Path.{_≡_, refl, sym, ap, _∙_}
 use mathlib.Core.Bool.{Bool, true, false, cond, _||_}
 use mathlib.Core.List.{List}
-use Prim.Native.Nat.{ℕ, suc, _+_, _*_, _≤_, _<_}
+use Prim.Native.Nat.{ℕ, suc, _+_, _*_, _≤_}
 use native.Mathlib.Omega.{arith}
 use lib.Dec.{eqb, ltb}
 use lib.ListN.{length}
 use lib.Seq.{sets, sets-eq}
-use borrow.Author.Tests.{lt-ltb, le-ltb, ltb-false, le-leb, lt-leb}
+use borrow.Author.Tests.{lt-ltb, le-ltb, ltb-false}
 use Rattle.base.specs.Branch.{by-test, or-false}
 use Rattle.layout.specs.declared.head.Head.{Head}
 use Rattle.layout.specs.declared.head.HeadAnswer.the-variants.{Read, Refused as HeadRefused}
-use Rattle.layout.specs.Sizes.{OPEN, headLen, rowLen, layoutLen}
-use Rattle.layout.specs.SettingsLaws.{StoreLong}
+use Rattle.layout.specs.Sizes.{headLen, rowLen, layoutLen}
 use Rattle.layout.specs.Head.{badHead, headAnswer, headOf}
 use Rattle.layout.specs.HeadLaws.{HeadRead, read-again}
 use Rattle.layout.specs.OnWords.{fits-held}
 use Rattle.calls.specs.Calls.{Row, Refused as RefusedBy}
-use Rattle.calls.specs.Walk.{Reader, Finding, found, Pass, Walk, unsound, path, search, Looked as Walked, unsoundly, looked, within, look}
+use Rattle.calls.specs.Walk.{Reader, Finding, found, Pass, Walk, unsound, path, search, Looked as LookedAt, unsoundly, looked, within, look}
 use Rattle.calls.specs.Refusals.{refusal, lookBackTests, isOpen}
-use Rattle.calls.specs.Step.{lookBack, lookAt, seen, viewOf, rowWords, written, zeros, isUnsound, reader, passedOn}
+use Rattle.calls.specs.LookBack.{lookBack, lookAt, seen, viewOf, rowWords, written, zeros, isUnsound, reader, passedOn}
 use Rattle.timeslice.specs.declared.Counts.{Counts}
 use Rattle.timeslice.specs.declared.Slice.{Slice}
 use Rattle.timeslice.specs.declared.Looked.{Looked}
 use Rattle.timeslice.specs.declared.Looked.the-variants.{Answered, Refused}
-use Rattle.timeslice.specs.declared.Seen.{Seen}
-use Rattle.timeslice.specs.declared.Seen.the-variants.{Whole, Unsound}
-use Rattle.timeslice.specs.declared.index.Start.{Start}
+use Rattle.timeslice.specs.declared.Sliced.{Sliced}
+use Rattle.timeslice.specs.declared.Sliced.the-variants.{Whole, Unsound}
+use Rattle.timeslice.specs.declared.index.PathStart.{PathStart}
 use Rattle.timeslice.specs.declared.index.Searched.{Searched}
 use Rattle.timeslice.specs.declared.index.Searched.the-variants.{At, Unsound as Nowhere}
-use Rattle.timeslice.specs.declared.walk.Walked.{Walked as Came}
+use Rattle.timeslice.specs.declared.walk.Walked.{Walked}
 use Rattle.timeslice.specs.declared.walk.Walked.the-variants.{Done, Unsound as Stopped}
 use Rattle.timeslice.specs.TakenLaws.{words-length}
-use Rattle.timeslice.specs.Told.{Told, over, bad, PathTold, Readable, Buffers, Reach}
+use Rattle.timeslice.specs.Told.{WalkTold, over, bad, PathTold, Readable, Buffers, Reach}
 use Rattle.timeslice.specs.ToldLaws.{told-found}
 use Rattle.timeslice.specs.PathLaws.{path-short}
 use Rattle.timeslice.specs.VisitLaws.{short-found}
-use Rattle.timeslice.specs.Searching.{startOf, searchedOf}
+use Rattle.timeslice.specs.Searching.{pathStart, searchedOf}
 use Rattle.timeslice.specs.SearchLaws.{search-few}
-use Rattle.timeslice.specs.Answer.{sliceOf, LookedBack, Sees, whole, broken, Answers, ownTests}
+use Rattle.timeslice.specs.Answer.{sliceOf, view, number, LookedBack, Slices, whole, broken, Answers, ownTests}
 
 -- ---- the first of four tests, and of five
 abbrev first : Bool → Bool → Bool → Bool → ℕ
@@ -81,25 +80,16 @@ module _ (ws : List ℕ) (t : ℕ) (rows list : List ℕ) where
       → LookedBack ws t rows list (Refused n) rows list
   unfolding lookBack
   refused-is n q f =
-      let e : lookBack ws t rows list ≡ record { answer = RefusedBy n; store = ws; rows = rows; list = list } = rw (q, f) in
-      record { answer = rw e; row-words = rw e; list-words = rw e; store-words = rw e }
-
-  seen-store : (w : Walked) → ws ≡ seen ws rows list w .store
-  seen-store unsoundly = refl
-  seen-store (looked r l ps) = refl
+      let e : lookBack ws t rows list ≡ record { answer = RefusedBy n; rows = rows; list = list } = rw (q, f) in
+      record { answer = rw e number; row-words = rw e; list-words = rw e }
 
   seen-is : (eqb (refusal (lookBackTests ws t (length rows) (length list) unsoundHere)) 0
       || eqb (refusal (lookBackTests ws t (length rows) (length list) unsoundHere)) 12) ≡ true
       → {r : Looked} {rows′ list′ : List ℕ} → Answers ws t rows list r rows′ list′ → LookedBack ws t rows list r rows′ list′
   unfolding lookBack
   seen-is q a =
-      let e : lookBack ws t rows list ≡ seen ws rows list (lookAt ws t) = rw q in
-      record {
-        answer = a .answer ∙ rw e;
-        row-words = a .row-words ∙ rw e;
-        list-words = a .list-words ∙ rw e;
-        store-words = seen-store (lookAt ws t) ∙ rw e;
-      }
+      let e : lookBack ws t rows list ≡ seen rows list (lookAt ws t) = rw q in
+      record { answer = rw e (a .answer); row-words = a .row-words ∙ rw e; list-words = a .list-words ∙ rw e }
 
   -- The head is refused.
   pub head-refused : {n : ℕ} → headAnswer ws ≡ HeadRefused n → LookedBack ws t rows list (Refused n) rows list
@@ -167,61 +157,29 @@ module _ {ws : List ℕ} {h : Head} (read : HeadRead ws h) (t : ℕ) (rows list 
           let p = or-false (ltb (length rows) (rowLen * h .settings .tags)) (ltb (length list) (h .settings .blocks)) (none .3) in
           record { long-rows = ltb-false _ _ (p .0); long-list = ltb-false _ _ (p .1) }
 
--- ---- its own tests, in order
-module _ (h : Head) (words t rows list : ℕ) where
-  abbrev ownRefusal : ℕ
-  ownRefusal = refusal (ownTests h words t rows list)
-
-  pub own-short : {n : ℕ} → StoreLong (h .settings) n → words < n → 4 ≡ ownRefusal
-  own-short s a = rw (lt-ltb words (layoutLen (h .settings)) (rw (s .is) at a))
-
-  module _ {n : ℕ} (s : StoreLong (h .settings) n) (a : n ≤ words) where
-    fits : ltb words (layoutLen (h .settings)) ≡ false
-    fits = le-ltb words (layoutLen (h .settings)) (rw (s .is) at a)
-
-    pub own-open : t ≡ OPEN → 5 ≡ ownRefusal
-    own-open b = rw (fits, le-leb OPEN t (omega arith))
-
-    module _ (b : (t ≡ OPEN → ⊥) × (t ≤ OPEN)) where
-      known : isOpen t ≡ false
-      known = lt-leb OPEN t (omega (arith, b .0, b .1))
-
-      pub own-late : h .cursor .clock < t → 7 ≡ ownRefusal
-      own-late c = rw (fits, known, lt-ltb _ t c)
-
-      module _ (c : t ≤ h .cursor .clock) where
-        pub own-rows : rows < rowLen * h .settings .tags → 11 ≡ ownRefusal
-        own-rows d = rw (fits, known, le-ltb _ t c, lt-ltb rows _ d)
-
-        pub own-list : rowLen * h .settings .tags ≤ rows → list < h .settings .blocks → 11 ≡ ownRefusal
-        own-list d e = rw (fits, known, le-ltb _ t c, le-ltb rows _ d, lt-ltb list _ e)
-
-        pub own-none : rowLen * h .settings .tags ≤ rows → h .settings .blocks ≤ list → 0 ≡ ownRefusal
-        own-none d e = rw (fits, known, le-ltb _ t c, le-ltb rows _ d, le-ltb list _ e)
-
 -- ---- search and path
 -- what was searched, taken apart
 searched-nowhere : (w : Finding ℕ (List Pass)) → searchedOf w ≡ Nowhere → w ≡ unsound
 searched-nowhere unsound e = refl
 searched-nowhere (found n ps) e = absurd (let z : _≡_ {A = ℕ} 0 1 = cc in omega arith)
 
-searched-at : (w : Finding ℕ (List Pass)) {s : Start} → searchedOf w ≡ At s → (ps : List Pass) × (w ≡ found (s .block) ps) × (s ≡ startOf (s .block) ps)
+searched-at : (w : Finding ℕ (List Pass)) {s : PathStart} → searchedOf w ≡ At s → (ps : List Pass) × (w ≡ found (s .block) ps) × (s ≡ pathStart (s .block) ps)
 searched-at unsound e = absurd (let z : _≡_ {A = ℕ} 0 1 = cc in omega arith)
 searched-at (found n ps) {s} e =
-    let i : s ≡ startOf n ps = cc in
+    let i : s ≡ pathStart n ps = cc in
     let j : s .block ≡ n = rw i in
-    (ps, rw j, i ∙ ap (λ (k : ℕ). startOf k ps) (sym j))
+    (ps, rw j, i ∙ ap (λ (k : ℕ). pathStart k ps) (sym j))
 
 counts-are : {m : Counts} {a b c : ℕ} → m .rows ≡ a → m .pages ≡ b → m .blocks ≡ c → m ≡ record { rows = a; pages = b; blocks = c }
 counts-are e f g = rw (← e, ← f, ← g)
 
-slice-is : {m : Counts} {s : Start} (r : List Row) (l : List ℕ) (ps : List Pass) → m .rows ≡ length r → m .pages ≡ s .read → m .blocks ≡ length l
-    → s ≡ startOf (s .block) ps → _≡_ {A = Slice} (record { counts = m; page0 = s .page0; page1 = s .page1; page2 = s .page2 }) (sliceOf (viewOf r l ps))
+slice-is : {m : Counts} {s : PathStart} (r : List Row) (l : List ℕ) (ps : List Pass) → m .rows ≡ length r → m .pages ≡ s .read → m .blocks ≡ length l
+    → s ≡ pathStart (s .block) ps → _≡_ {A = Slice} (record { counts = m; page0 = s .page0; page1 = s .page1; page2 = s .page2 }) (sliceOf (viewOf r l ps))
 slice-is {m} {s} r l ps e f g q =
-    let read : m .pages ≡ length ps = f ∙ ap (λ (x : Start). x .read) q in
-    let page0 : s .page0 ≡ passedOn 0 ps = ap (λ (x : Start). x .page0) q in
-    let page1 : s .page1 ≡ passedOn 1 ps = ap (λ (x : Start). x .page1) q in
-    let page2 : s .page2 ≡ passedOn 2 ps = ap (λ (x : Start). x .page2) q in
+    let read : m .pages ≡ length ps = f ∙ ap (λ (x : PathStart). x .read) q in
+    let page0 : s .page0 ≡ passedOn 0 ps = ap (λ (x : PathStart). x .page0) q in
+    let page1 : s .page1 ≡ passedOn 1 ps = ap (λ (x : PathStart). x .page1) q in
+    let page2 : s .page2 ≡ passedOn 2 ps = ap (λ (x : PathStart). x .page2) q in
     rw (counts-are e read g, page0, page1, page2)
 
 -- words set from the start on
@@ -229,7 +187,7 @@ sets-written : (z buffer : List ℕ) → length z ≤ length buffer → sets buf
 sets-written z buffer h = let k : 0 + length z ≡ length z = omega arith in sets-eq z buffer 0 (omega arith) ∙ rw k
 
 -- the walk from nothing counted: more than d rows, or an unsound link, is unsound
-told-unsound : {d : ℕ} {rows list rows′ list′ : List ℕ} {n : Counts} (ps : List Pass) {w : Walk} → n .rows ≡ 0 → Told d rows list n w Stopped rows′ list′
+told-unsound : {d : ℕ} {rows list rows′ list′ : List ℕ} {n : Counts} (ps : List Pass) {w : Walk} → n .rows ≡ 0 → WalkTold d rows list n w Stopped rows′ list′
     → within d ps w ≡ unsoundly
 told-unsound {d} ps z (over {r = r} h) = rw (lt-ltb d (length r) (omega arith))
 told-unsound ps z bad = refl
@@ -250,13 +208,13 @@ module _ {ws : List ℕ} {h : Head} (ready : Readable ws h) (t : ℕ) where
   look-is = rw (ready .is)
 
   module _ {x : Searched} (searched : x ≡ searchedOf (search t (h .cursor .opened) (reader ws))) (rows list : List ℕ) where
-    pub sees-nowhere : x ≡ Nowhere → Sees (lookAt ws t) rows list Unsound rows list
+    pub slices-nowhere : x ≡ Nowhere → Slices (lookAt ws t) rows list Unsound rows list
     unfolding look
-    sees-nowhere n =
+    slices-nowhere n =
         let p : search t (h .cursor .opened) (reader ws) ≡ unsound = searched-nowhere _ (sym searched ∙ n) in
         broken (look-is ∙ rw p)
 
-    module _ {s : Start} (n : x ≡ At s) where
+    module _ {s : PathStart} (n : x ≡ At s) where
       pub path-reach : Buffers (h .settings) rows list → Reach (h .settings) (s .block) (none-yet (s .read)) rows list
       path-reach b =
           let g = search-few t (h .cursor .opened) (reader ws) searched n in
@@ -267,16 +225,16 @@ module _ {ws : List ℕ} {h : Head} (ready : Readable ws h) (t : ℕ) where
             blocks = omega (arith, g .1, ready .sound .opened);
           }
 
-      module _ {a : Came} {rows′ list′ : List ℕ} (told : PathTold (h .settings) t (reader ws) (s .block) rows list (none-yet (s .read)) a rows′ list′) where
-        pub sees-unsound : a ≡ Stopped → Sees (lookAt ws t) rows list Unsound rows′ list′
+      module _ {a : Walked} {rows′ list′ : List ℕ} (told : PathTold (h .settings) t (reader ws) (s .block) rows list (none-yet (s .read)) a rows′ list′) where
+        pub slices-unsound : a ≡ Stopped → Slices (lookAt ws t) rows list Unsound rows′ list′
         unfolding look
-        sees-unsound e =
+        slices-unsound e =
             let (ps, p, q) = searched-at (search t (h .cursor .opened) (reader ws)) (sym searched ∙ n) in
             broken (look-is ∙ rw p (told-unsound ps refl (rw e at (told .told (suc (s .block)) (omega arith)))))
 
-        pub sees-whole : Buffers (h .settings) rows list → {m : Counts} → a ≡ Done m
-            → Sees (lookAt ws t) rows list (Whole (record { counts = m; page0 = s .page0; page1 = s .page1; page2 = s .page2 })) rows′ list′
-        sees-whole b {m} e =
+        pub slices-whole : Buffers (h .settings) rows list → {m : Counts} → a ≡ Done m
+            → Slices (lookAt ws t) rows list (Whole (record { counts = m; page0 = s .page0; page1 = s .page1; page2 = s .page2 })) rows′ list′
+        slices-whole b {m} e =
             let (ps, p, q) = searched-at (search t (h .cursor .opened) (reader ws)) (sym searched ∙ n) in
             let (r, l, w, f) = told-found (rw e at (told .told (suc (s .block)) (omega arith))) in
             let few = short-found (path-short (h .settings .block) t (reader ws) (suc (s .block)) (s .block)) w in
@@ -291,22 +249,22 @@ module _ {ws : List ℕ} {h : Head} (ready : Readable ws h) (t : ℕ) where
             (f .list-words ∙ sets-written l list all-blocks)
 
 -- ---- what was seen is answered
-sees-as : {w : Walked} {rows list rows′ list′ : List ℕ} {x y : Seen} → Sees w rows list x rows′ list′ → x ≡ y → Sees w rows list y rows′ list′
-sees-as a e = rw (← e) a
+slices-as : {w : LookedAt} {rows list rows′ list′ : List ℕ} {x y : Sliced} → Slices w rows list x rows′ list′ → x ≡ y → Slices w rows list y rows′ list′
+slices-as a e = rw (← e) a
 
-module _ {ws : List ℕ} {t : ℕ} {rows list : List ℕ} {x : Seen} {rows₁ list₁ : List ℕ} (seen-so : Sees (lookAt ws t) rows list x rows₁ list₁) where
-  answers-whole : {s : Slice} → Sees (lookAt ws t) rows list (Whole s) rows₁ list₁ → Answers ws t rows list (Answered s) rows₁ list₁
-  answers-whole (whole w e p q) = record { answer = rw w (ap Answered e); row-words = rw w p; list-words = rw w q }
+module _ {ws : List ℕ} {t : ℕ} {rows list : List ℕ} {x : Sliced} {rows₁ list₁ : List ℕ} (sliced : Slices (lookAt ws t) rows list x rows₁ list₁) where
+  answers-whole : {s : Slice} → Slices (lookAt ws t) rows list (Whole s) rows₁ list₁ → Answers ws t rows list (Answered s) rows₁ list₁
+  answers-whole (whole w e p q) = record { answer = rw w (view e); row-words = rw w p; list-words = rw w q }
 
   pub answer-whole : {s : Slice} → x ≡ Whole s → Answers ws t rows list (Answered s) rows₁ list₁
-  answer-whole e = answers-whole (sees-as seen-so e)
+  answer-whole e = answers-whole (slices-as sliced e)
 
-  answers-broken : Sees (lookAt ws t) rows list Unsound rows₁ list₁ → Answers ws t rows list (Refused 12) (zeros rows) (zeros list)
-  answers-broken (broken w) = record { answer = rw w; row-words = rw w; list-words = rw w }
+  answers-broken : Slices (lookAt ws t) rows list Unsound rows₁ list₁ → Answers ws t rows list (Refused 12) (zeros rows) (zeros list)
+  answers-broken (broken w) = record { answer = rw w number; row-words = rw w; list-words = rw w }
 
   -- both buffers are filled with zeros, as long as they were
   pub answer-broken : x ≡ Unsound → length rows₁ ≡ length rows → length list₁ ≡ length list → {rows₂ list₂ : List ℕ} → rows₂ ≡ zeros rows₁ → list₂ ≡ zeros list₁
       → Answers ws t rows list (Refused 12) rows₂ list₂
   answer-broken e same-rows same-list p q =
-      let z = answers-broken (sees-as seen-so e) in
+      let z = answers-broken (slices-as sliced e) in
       rw (p, q, same-rows, same-list) z

@@ -7,7 +7,9 @@ pub mod TakenLaws
 pub mod ToldLaws
 pub mod VisitLaws
 pub mod ListedLaws
+pub mod InsideLaws
 pub mod VisitedLaws
 pub mod PathLaws
 pub mod SearchLaws
+pub mod TurnedAwayLaws
 pub mod AnswerLaws

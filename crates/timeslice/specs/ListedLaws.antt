@@ -2,7 +2,7 @@
 -- list the whole visit is told.
 use mathlib.Core.Path.{_≡_, refl, sym, _∙_}
 use mathlib.Core.List.{List, [], _∷_, _++_, append-assoc}
-use Prim.Native.Nat.{ℕ, zero, suc, _+_, _-_, _≤_, _<_}
+use Prim.Native.Nat.{ℕ, suc, _+_, _-_, _≤_, _<_}
 use native.Mathlib.Omega.{arith}
 use lib.ListN.{length, set, take, drop, length-append, length-take}
 use lib.Seq.{sets, sets-eq, take-at, drop-at}
@@ -10,7 +10,7 @@ use borrow.Author.Tests.{eq-eqb, ne-eqb, le-leb, lt-leb}
 use Rattle.base.specs.Sums.{All, all-map}
 use Rattle.layout.specs.declared.settings.Settings.{Settings}
 use Rattle.layout.specs.Address.{Numbered}
-use Rattle.layout.specs.Fields.{closedWord, leftWord, childWord}
+use Rattle.layout.specs.Fields.{closedWord}
 use Rattle.layout.specs.Parts.{blockWord}
 use Rattle.calls.specs.Calls.{Row}
 use Rattle.calls.specs.Walk.{Reader, Walk, found, andThen, rowsOf, visit}
@@ -22,19 +22,20 @@ use Rattle.timeslice.specs.declared.walk.Entered.{Entered}
 use Rattle.timeslice.specs.declared.walk.Entered.the-variants.{Within, Ended, Unsound}
 use Rattle.timeslice.specs.Taken.{Takes, all, many}
 use Rattle.timeslice.specs.TakenLaws.{sets-append}
-use Rattle.timeslice.specs.Told.{Told, done, over, bad, VisitTold, Gap}
-use Rattle.timeslice.specs.Listed.{rowsIn, Listed, every, none, VisitListed, leftOf, InsideListed, Enters, within, ended, broken, ListRoom, InsideRoom, RowBuffer}
-use Rattle.timeslice.specs.VisitLaws.{visit-short, short-found, visit-follows, follows-rows, follows-all}
+use Rattle.timeslice.specs.Told.{WalkTold, done, over, bad, VisitTold, Gap}
+use Rattle.timeslice.specs.ToldLaws.{word-is}
+use Rattle.timeslice.specs.Listed.{rowsIn, Listed, every, none, VisitListed, InsideListed, Enters, within, ended, broken, ListRoom, InsideRoom, RowBuffer}
+use Rattle.timeslice.specs.VisitLaws.{with-fuel, visit-short, short-found, visit-follows, follows-rows, follows-all}
 
 -- ---- one walk listed after another
-listed-then : {list list₁ list₂ : List ℕ} {n m k : ℕ} {v w : Walk} → Listed list n v m list₁ → 0 < m → Listed list₁ m w k list₂
+pub listed-then : {list list₁ list₂ : List ℕ} {n m k : ℕ} {v w : Walk} → Listed list n v m list₁ → 0 < m → Listed list₁ m w k list₂
     → Listed list n (andThen v w) k list₂
 listed-then {list = list} {n = n} {k = k} (every {r = r} {l = l} e q) h (every {r = r′} {l = l′} e′ q′) =
     every {r = r ++ r′} {l = l ++ l′} {m = k} (simp length-append (omega arith)) (q′ ∙ rw (q, e) (sym (sets-append list n l l′)))
 listed-then (every e q) h none = none
 listed-then none h x = absurd (omega arith)
 
-listed-stop : {list list₁ list₂ : List ℕ} {n m : ℕ} {v : Walk} (w : Walk) → 0 < n → Listed list n v m list₁ → m ≡ 0
+pub listed-stop : {list list₁ list₂ : List ℕ} {n m : ℕ} {v : Walk} (w : Walk) → 0 < n → Listed list n v m list₁ → m ≡ 0
     → Listed list n (andThen v w) 0 list₂
 listed-stop w h (every e q) z = absurd (omega arith)
 listed-stop w h none z = none
@@ -45,26 +46,17 @@ pub listed-found : {list list′ : List ℕ} {n m : ℕ} {w : Walk} → Listed l
 listed-found (every {r = r} {l = l} e q) h = (r, l, refl, e, q)
 listed-found none h = absurd (omega arith)
 
--- a word of the block that the code is handed
-word-is : {block it : List ℕ} (j : ℕ) {w : ℕ} → block ≡ it → w ≡ blockWord block j → w ≡ blockWord it j
-word-is j is e = e ∙ rw is
-
 -- ---- the ways out of a visit of block k
 module _ {s : Settings} {t : ℕ} {R : Reader} {lower upper k : ℕ} {list : List ℕ} {n : ℕ} where
-  -- enough fuel is more than none
-  with-fuel : {m : ℕ} {list′ : List ℕ}
+  enough : {m : ℕ} {list′ : List ℕ}
       → ((f : ℕ) → upper - lower ≤ f → Listed list n (visit (s .block) t R (suc f) lower upper k) m list′)
       → VisitListed s t R lower upper k list n m list′
-  with-fuel {m} {list′} g = record { told = go }
-    where
-      go : (f : ℕ) → upper - lower < f → Listed list n (visit (s .block) t R f lower upper k) m list′
-      go zero q = absurd (omega arith)
-      go (suc f) q = g f (omega arith)
+  enough {m} {list′} g = record { told = with-fuel (λ f. Listed list n (visit (s .block) t R f lower upper k) m list′) (upper - lower) g }
 
   -- There is no block,
   visit-none : k ≡ 0 → VisitListed s t R lower upper k list n n list
   unfolding visit
-  visit-none e = with-fuel (λ f q. rw (eq-eqb k 0 e) (every {r = []} {l = []} {m = n} (omega arith) refl))
+  visit-none e = enough (λ f q. rw (eq-eqb k 0 e) (every {r = []} {l = []} {m = n} (omega arith) refl))
 
   pub enter-none : 0 < n → k ≡ 0 → Enters s t R lower upper k list n (Ended n) list
   enter-none h e = ended (visit-none e) h
@@ -72,7 +64,7 @@ module _ {s : Settings} {t : ℕ} {R : Reader} {lower upper k : ℕ} {list : Lis
   -- or it lies outside of the two numbers,
   visit-low : (k ≡ 0 → ⊥) → k ≤ lower → VisitListed s t R lower upper k list n 0 list
   unfolding visit
-  visit-low e₁ e₂ = with-fuel (λ f q. rw (ne-eqb k 0 e₁, le-leb k lower e₂) none)
+  visit-low e₁ e₂ = enough (λ f q. rw (ne-eqb k 0 e₁, le-leb k lower e₂) none)
 
   pub enter-low : (k ≡ 0 → ⊥) → k ≤ lower → Enters s t R lower upper k list n Unsound list
   enter-low e₁ e₂ = broken (visit-low e₁ e₂)
@@ -80,7 +72,7 @@ module _ {s : Settings} {t : ℕ} {R : Reader} {lower upper k : ℕ} {list : Lis
   module _ (e₂ : lower < k) where
     visit-high : upper ≤ k → VisitListed s t R lower upper k list n 0 list
     unfolding visit
-    visit-high e₃ = with-fuel (λ f q. rw (ne-eqb k 0 (λ z. omega arith), lt-leb k lower e₂, le-leb upper k e₃) none)
+    visit-high e₃ = enough (λ f q. rw (ne-eqb k 0 (λ z. omega arith), lt-leb k lower e₂, le-leb upper k e₃) none)
 
     pub enter-high : upper ≤ k → Enters s t R lower upper k list n Unsound list
     enter-high e₃ = broken (visit-high e₃)
@@ -89,7 +81,7 @@ module _ {s : Settings} {t : ℕ} {R : Reader} {lower upper k : ℕ} {list : Lis
       -- or it closed by t,
       visit-ended : blockWord (R .block k) closedWord ≤ t → VisitListed s t R lower upper k list n (n + 1) (set list n k)
       unfolding visit
-      visit-ended g = with-fuel (λ f q.
+      visit-ended g = enough (λ f q.
           rw (ne-eqb k 0 (λ z. omega arith), lt-leb k lower e₂, lt-leb upper k e₃, le-leb _ t g) (every {r = []} {l = k ∷ []} refl refl))
 
       module _ {block : List ℕ} (is : block ≡ R .block k) {closed : ℕ} (c : closed ≡ blockWord block closedWord) where
@@ -104,7 +96,7 @@ module _ {s : Settings} {t : ℕ} {R : Reader} {lower upper k : ℕ} {list : Lis
   inside-visit : {m : ℕ} {list₁ : List ℕ} → Enters s t R lower upper k list n (Within m) list₁ → {a : ℕ} {list₂ : List ℕ}
       → InsideListed s t R lower upper k list₁ m a list₂ → VisitListed s t R lower upper k list n a list₂
   unfolding visit
-  inside-visit {m} {list₁} (within e₂ e₃ c e q) inside = with-fuel (λ f h.
+  inside-visit {m} {list₁} (within e₂ e₃ c e q) inside = enough (λ f h.
       let z : k ≡ 0 → ⊥ = λ y. omega arith in
       let first : Listed list n (found (rowsOf (s .block) t (R .block k)) (k ∷ [])) m list₁ = every {l = k ∷ []} e q in
       rw (ne-eqb k 0 z, lt-leb k lower e₂, lt-leb upper k e₃, lt-leb _ t c) (listed-then first (omega arith) (inside .told f h)))
@@ -146,51 +138,6 @@ module _ {s : Settings} {t : ℕ} {R : Reader} {lower upper k : ℕ} {list : Lis
           blocks = omega (arith, y .2, room .blocks);
         }
 
--- ---- the two visits inside block k
-module _ {s : Settings} {lower upper k : ℕ} {list : List ℕ} {n : ℕ} (room : InsideRoom s lower upper k n list) where
-  pub inside-numbered : Numbered s k
-  inside-numbered = record { low = omega (arith, room .low); high = omega (arith, room .high, room .known) }
-
-  pub child-room : ListRoom s k upper n list
-  child-room = record {
-    some = room .some;
-    long = room .long;
-    gap = room .high;
-    known = room .known;
-    blocks = omega (arith, room .blocks, room .low);
-  }
-
-  module _ {t : ℕ} {R : Reader} {child m : ℕ} {list₁ : List ℕ} (first : VisitListed s t R k upper child list n m list₁) where
-    -- The visit of the last child stops it,
-    pub inside-stops : {block : List ℕ} → block ≡ R .block k → child ≡ blockWord block childWord → m ≡ 0 → {list₂ : List ℕ}
-        → InsideListed s t R lower upper k list n 0 list₂
-    inside-stops is c z = record {
-      told = λ f h. listed-stop (visit (s .block) t R f lower k (leftOf R k)) (room .some)
-          (rw (word-is childWord is c) at (first .told f (omega (arith, room .low, room .high)))) z;
-    }
-
-    module _ (h : 0 < m) (same : length list₁ ≡ length list) where
-      -- or leaves room for that of the left,
-      pub left-room : ListRoom s lower k m list₁
-      left-room =
-          let (r, l, w, e, q) = listed-found (first .told (suc (upper - k)) (omega arith)) h in
-          let z = short-found (visit-short (s .block) t R (suc (upper - k)) k upper child (room .high)) w in
-          record {
-            some = h;
-            long = omega (arith, room .long);
-            gap = room .low;
-            known = omega (arith, room .known, room .high);
-            blocks = omega (arith, room .blocks);
-          }
-
-    -- which comes next.
-    pub inside-on : 0 < m → {block : List ℕ} → block ≡ R .block k → child ≡ blockWord block childWord → {left : ℕ} → left ≡ blockWord block leftWord
-        → {a : ℕ} {list₂ : List ℕ} → VisitListed s t R lower k left list₁ m a list₂ → InsideListed s t R lower upper k list n a list₂
-    inside-on h is c d second = record {
-      told = λ f g. listed-then (rw (word-is childWord is c) at (first .told f (omega (arith, room .low, room .high)))) h
-          (rw (word-is leftWord is d) at (second .told f (omega (arith, room .low, room .high))));
-    }
-
 -- ---- the whole visit
 -- a walk with its rows taken and its blocks listed
 takes-as : {d given : ℕ} {rows rows′ : List ℕ} {r : List Row} {x y : Took} → Takes d rows given r x rows′ → x ≡ y → Takes d rows given r y rows′
@@ -198,12 +145,12 @@ takes-as a e = rw (← e) a
 
 taken-done : {d : ℕ} {rows list rows′ list′ : List ℕ} {n : Counts} {r : List Row} {l : List ℕ} {m given : ℕ} → m ≡ n .blocks + length l
     → list′ ≡ sets list (n .blocks) l → Takes d rows (n .rows) r (Rows given) rows′
-    → Told d rows list n (found r l) (Done (record { rows = given; pages = n .pages; blocks = m })) rows′ list′
+    → WalkTold d rows list n (found r l) (Done (record { rows = given; pages = n .pages; blocks = m })) rows′ list′
 taken-done {r = r} {l = l} e q (all g f w) =
     done {r = r} {l = l} (record { given = g; pages = refl; blocks = e; fits = f; row-words = w; list-words = q })
 
 taken-over : {d : ℕ} {rows list rows′ list′ : List ℕ} {n : Counts} {r : List Row} {l : List ℕ} → Takes d rows (n .rows) r TooMany rows′
-    → Told d rows list n (found r l) Stopped rows′ list′
+    → WalkTold d rows list n (found r l) Stopped rows′ list′
 taken-over {r = r} (many h) = over {r = r} h
 
 module _ {s : Settings} {lower upper : ℕ} {rows list : List ℕ} {n : Counts} (room : Gap s lower upper n rows list) where
@@ -224,7 +171,7 @@ module _ {s : Settings} {lower upper : ℕ} {rows list : List ℕ} {n : Counts} 
       = q ∙ sets-eq l list a (omega (arith, room .buffers .long-list)) ∙ append-assoc (take a list) l (drop (a + length l) list) in
       rw (i, d, drop-at (take a list) (l ++ drop (a + length l) list) a front) (take-at l (drop (a + length l) list) (length l) refl)
 
-  stops : {m : ℕ} {list′ : List ℕ} {w : Walk} → Listed list (n .blocks) w m list′ → m ≡ 0 → {rows′ : List ℕ} → Told (s .tags) rows list n w Stopped rows′ list′
+  stops : {m : ℕ} {list′ : List ℕ} {w : Walk} → Listed list (n .blocks) w m list′ → m ≡ 0 → {rows′ : List ℕ} → WalkTold (s .tags) rows list n w Stopped rows′ list′
   stops (every e q) z = absurd (omega (arith, room .some))
   stops none z = bad
 

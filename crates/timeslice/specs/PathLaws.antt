@@ -1,11 +1,11 @@
 -- The path's answers: each way out of the code tells the path as it is defined, and each turn of the loop leaves a shorter path to tell. A path lists no
 -- more blocks than its number.
 use mathlib.Core.Path.{_≡_, _∙_}
-use mathlib.Core.List.{List, [], _∷_, _++_}
+use mathlib.Core.List.{List, [], _∷_}
 use Prim.Native.Nat.{ℕ, zero, suc, _+_, _-_, _≤_, _<_}
 use native.Mathlib.Omega.{arith}
 use lib.Dec.{eqb, leb}
-use lib.ListN.{length, length-append}
+use lib.ListN.{length}
 use borrow.Author.Tests.{eq-eqb, ne-eqb, le-leb, lt-leb, leb-false}
 use Rattle.base.specs.Branch.{cond-all}
 use Rattle.layout.specs.declared.settings.Settings.{Settings}
@@ -14,34 +14,27 @@ use Rattle.layout.specs.Sizes.{OPEN}
 use Rattle.layout.specs.Address.{Numbered}
 use Rattle.layout.specs.Fields.{closedWord, upWord, leftWord, childWord}
 use Rattle.layout.specs.Parts.{blockWord}
-use Rattle.calls.specs.Calls.{Row}
-use Rattle.calls.specs.Walk.{Reader, Walk, andThen, listed, rowsOf, neighbour, visit, path}
-use Rattle.calls.specs.Step.{reader}
+use Rattle.calls.specs.Walk.{Reader, andThen, rowsOf, neighbour, visit, path}
+use Rattle.calls.specs.LookBack.{reader}
 use Rattle.timeslice.specs.declared.Counts.{Counts}
 use Rattle.timeslice.specs.declared.walk.Walked.{Walked}
 use Rattle.timeslice.specs.declared.walk.Walked.the-variants.{Done, Unsound}
 use Rattle.timeslice.specs.declared.walk.Step.{Step}
 use Rattle.timeslice.specs.declared.walk.Climbed.{Climbed}
 use Rattle.timeslice.specs.declared.walk.Climbed.the-variants.{On, Unsound as NotOn}
-use Rattle.timeslice.specs.Told.{Told, bad, VisitTold, PathTold, blockWalk, Climbs, on, above, full, upOf, Readable, Space, Gap, Reach, Under}
-use Rattle.timeslice.specs.ToldLaws.{told-then, told-stop, told-none, told-found, buffers-same}
-use Rattle.timeslice.specs.VisitLaws.{Short, none, few, visit-short, short-found}
+use Rattle.timeslice.specs.Told.{WalkTold, bad, VisitTold, PathTold, blockWalk, Climbs, on, above, full, upOf, Readable, Space, Gap, Reach, Under}
+use Rattle.timeslice.specs.ToldLaws.{word-is, told-then, told-stop, told-none, told-found, buffers-same}
+use Rattle.timeslice.specs.VisitLaws.{with-fuel, Short, none, few, listed-short, visit-short, short-found}
 
 -- ---- a path from n lists no more than n blocks
-listed-path : {n up : ℕ} (r : List Row) {v w : Walk} → Short up n v → Short 0 (suc up) w → Short 0 (suc n) (listed n r v w)
-listed-path r none none = none
-listed-path r none (few h) = none
-listed-path r (few h) none = none
-listed-path {n} r (few {l = l} g) (few {l = l′} h) = few {l = n ∷ (l ++ l′)} (simp length-append (omega arith))
-
 pub path-short : (b t : ℕ) (R : Reader) (fuel n : ℕ) → Short 0 (suc n) (path b t R fuel n)
 unfolding path
 path-short b t R zero n = none
 path-short b t R (suc fuel) n =
     cond-all (Short 0 (suc n)) (eqb n 0) (λ e. few {l = []} (omega arith))
     (λ e. cond-all (Short 0 (suc n)) (leb n (upOf R n)) (λ i. none)
-    (λ i. listed-path (rowsOf b t (R .block n))
-    (visit-short b t R (suc n) (upOf R n) n (neighbour R n) (leb-false n (upOf R n) i)) (path-short b t R fuel (upOf R n))))
+    (λ i. listed-short n (rowsOf b t (R .block n))
+    (visit-short b t R (suc n) (upOf R n) n (neighbour R n) (leb-false n (upOf R n) i)) (path-short b t R fuel (upOf R n)) (omega arith)))
 
 -- ---- the left neighbour
 module _ (R : Reader) (n : ℕ) {block : List ℕ} (is : block ≡ R .block n) {closed : ℕ} (c : closed ≡ blockWord block closedWord) where
@@ -65,7 +58,7 @@ root-is r = rw (r .is)
 
 module _ (R : Reader) (number : ℕ) {block : List ℕ} (is : block ≡ R .block number) {up : ℕ} (u : up ≡ blockWord block upWord) where
   up-is : up ≡ upOf R number
-  up-is = u ∙ rw is
+  up-is = word-is upWord is u
 
   -- the up of a block that lies above it is a block too, unless it is 0
   pub up-numbered : {s : Settings} → Under s R number → (up ≡ 0 → ⊥) → Numbered s up
@@ -79,7 +72,7 @@ module _ (R : Reader) (number : ℕ) {block : List ℕ} (is : block ≡ R .block
     pub climb-above : number ≤ up → Climbs s t R rows list n number NotOn rows list
     climb-above g = above (rw up-is at g)
 
-    module _ (g : up < number) {a : Walked} {rows′ list′ : List ℕ} (told : Told (s .tags) rows list n (blockWalk s t block number) a rows′ list′) where
+    module _ (g : up < number) {a : Walked} {rows′ list′ : List ℕ} (told : WalkTold (s .tags) rows list n (blockWalk s t block number) a rows′ list′) where
       pub climb-full : a ≡ Unsound → Climbs s t R rows list n number NotOn rows′ list′
       climb-full q = full (rw up-is at g) (rw (is, q) at told)
 
@@ -89,26 +82,21 @@ module _ (R : Reader) (number : ℕ) {block : List ℕ} (is : block ≡ R .block
 
 -- ---- the ways out of a path at block k
 module _ {s : Settings} {t : ℕ} {R : Reader} {k : ℕ} {rows list : List ℕ} {n : Counts} where
-  -- enough fuel is more than none
-  with-fuel : {a : Walked} {rows′ list′ : List ℕ}
-      → ((f : ℕ) → k ≤ f → Told (s .tags) rows list n (path (s .block) t R (suc f) k) a rows′ list′) → PathTold s t R k rows list n a rows′ list′
-  with-fuel {a} {rows′} {list′} g = record { told = go }
-    where
-      go : (f : ℕ) → k < f → Told (s .tags) rows list n (path (s .block) t R f k) a rows′ list′
-      go zero q = absurd (omega arith)
-      go (suc f) q = g f (omega arith)
+  enough : {a : Walked} {rows′ list′ : List ℕ}
+      → ((f : ℕ) → k ≤ f → WalkTold (s .tags) rows list n (path (s .block) t R (suc f) k) a rows′ list′) → PathTold s t R k rows list n a rows′ list′
+  enough {a} {rows′} {list′} g = record { told = with-fuel (λ f. WalkTold (s .tags) rows list n (path (s .block) t R f k) a rows′ list′) k g }
 
   -- It is at 0,
   top-told : k ≡ 0 → n .rows ≤ s .tags → PathTold s t R k rows list n (Done n) rows list
   unfolding path
-  top-told e g = with-fuel (λ f q. rw (eq-eqb k 0 e) (told-none (s .tags) rows list n g))
+  top-told e g = enough (λ f q. rw (eq-eqb k 0 e) (told-none (s .tags) rows list n g))
 
   module _ (z : k ≡ 0 → ⊥) where
     -- or its up is unsound or its rows are too many,
     stop-told : {rows₁ list₁ : List ℕ} → Climbs s t R rows list n k NotOn rows₁ list₁ → PathTold s t R k rows list n Unsound rows₁ list₁
     unfolding path
-    stop-told (above g) = with-fuel (λ f q. rw (ne-eqb k 0 z, le-leb k _ g) bad)
-    stop-told (full g x) = with-fuel (λ f q.
+    stop-told (above g) = enough (λ f q. rw (ne-eqb k 0 z, le-leb k _ g) bad)
+    stop-told (full g x) = enough (λ f q.
         let v = visit (s .block) t R (suc k) (upOf R k) k (neighbour R k) in
         rw (ne-eqb k 0 z, lt-leb k _ g) (told-stop (s .tags) rows list n (andThen v (path (s .block) t R f (upOf R k))) x))
 
@@ -118,7 +106,7 @@ module _ {s : Settings} {t : ℕ} {R : Reader} {k : ℕ} {rows list : List ℕ} 
       -- which stops the path,
       visit-told : a ≡ Unsound → Climbs s t R rows list n k (On i) rows₁ list₁ → PathTold s t R k rows list n Unsound rows₂ list₂
       unfolding path
-      visit-told e (on g y w x) = with-fuel (λ f q.
+      visit-told e (on g y w x) = enough (λ f q.
           rw (ne-eqb k 0 z, lt-leb k _ g)
           (told-then (s .tags) rows list n x (told-stop (s .tags) rows₁ list₁ (i .counts) _ (rw (y, w, e) at (visited .told (suc k) (omega arith))))))
 
@@ -126,7 +114,7 @@ module _ {s : Settings} {t : ℕ} {R : Reader} {k : ℕ} {rows list : List ℕ} 
       next-told : {m : Counts} → a ≡ Done m → Climbs s t R rows list n k (On i) rows₁ list₁ → {r : Walked} {rows₃ list₃ : List ℕ}
           → PathTold s t R (i .up) rows₂ list₂ m r rows₃ list₃ → PathTold s t R k rows list n r rows₃ list₃
       unfolding path
-      next-told e (on g y w x) rest = with-fuel (λ f q.
+      next-told e (on g y w x) rest = enough (λ f q.
           rw (ne-eqb k 0 z, lt-leb k _ g)
           (told-then (s .tags) rows list n x
           (told-then (s .tags) rows₁ list₁ (i .counts) (rw (y, w, e) at (visited .told (suc k) (omega arith))) (rw y at (rest .told f (omega arith))))))

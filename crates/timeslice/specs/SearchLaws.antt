@@ -16,12 +16,12 @@ use Rattle.layout.specs.SettingsLaws.{layout-least}
 use Rattle.layout.specs.OnWords.{held-fits}
 use Rattle.layout.specs.PartsLaws.{LevelPart, PagePart}
 use Rattle.calls.specs.Walk.{Reader, Finding, unsound, found, Pass, lastUpTo, entries, topLevel, passing, lookUp, descend, search}
-use Rattle.calls.specs.Step.{reader}
-use Rattle.timeslice.specs.declared.index.Start.{Start}
+use Rattle.calls.specs.LookBack.{reader}
+use Rattle.timeslice.specs.declared.index.PathStart.{PathStart}
 use Rattle.timeslice.specs.declared.index.Searched.{Searched}
 use Rattle.timeslice.specs.declared.index.Searched.the-variants.{At, Unsound}
 use Rattle.timeslice.specs.Told.{Readable}
-use Rattle.timeslice.specs.Searching.{startOf, searchedOf, passOver, Level, OnPage, OnEntry}
+use Rattle.timeslice.specs.Searching.{pathStart, searchedOf, passOver, Level, OnPage, OnEntry}
 
 -- ---- a page, from its last entry on
 module _ (t : ℕ) (page : List ℕ) where
@@ -124,14 +124,14 @@ searched-stop : (p : Pass) (w : Finding ℕ (List Pass)) → searchedOf w ≡ Un
 searched-stop p unsound e = refl
 searched-stop p (found n ps) e = absurd (let z : _≡_ {A = ℕ} 0 1 = cc in omega arith)
 
-searched-on : (p : Pass) (w : Finding ℕ (List Pass)) {s r : Start} → searchedOf w ≡ At s → r ≡ passOver (p .level) (p .number) s → At r ≡ searchedOf (passing p w)
+searched-on : (p : Pass) (w : Finding ℕ (List Pass)) {s r : PathStart} → searchedOf w ≡ At s → r ≡ passOver (p .level) (p .number) s → At r ≡ searchedOf (passing p w)
 searched-on p unsound e q = absurd (let z : _≡_ {A = ℕ} 0 1 = cc in omega arith)
 searched-on p (found n ps) {s} {r} e q =
-    let i : s ≡ startOf n ps = cc in
+    let i : s ≡ pathStart n ps = cc in
     ap At (q ∙ rw (i, add-one (length ps)))
 
 module _ (t opened : ℕ) (R : Reader) (l e : ℕ) where
-  pub descend-ground : l ≡ 0 → {s : Start} → s ≡ startOf (e + 1) [] → At s ≡ searchedOf (descend t opened R l e)
+  pub descend-ground : l ≡ 0 → {s : PathStart} → s ≡ pathStart (e + 1) [] → At s ≡ searchedOf (descend t opened R l e)
   unfolding descend
   descend-ground z q = rw (z, ← add-one e) (ap At q)
 
@@ -151,7 +151,7 @@ module _ (t opened : ℕ) (R : Reader) (l e : ℕ) where
       descend-stop n = rw (descend-is, ne-eqb k 0 q)
           (searched-stop (record { level = l - 1; number = e }) (descend t opened R (l - 1) (pageLen * e + (k - 1))) (sym on ∙ n))
 
-      pub descend-on : {s r : Start} → x ≡ At s → r ≡ passOver (l - 1) e s → At r ≡ searchedOf (descend t opened R l e)
+      pub descend-on : {s r : PathStart} → x ≡ At s → r ≡ passOver (l - 1) e s → At r ≡ searchedOf (descend t opened R l e)
       descend-on n m = rw (descend-is, ne-eqb k 0 q)
           (searched-on (record { level = l - 1; number = e }) (descend t opened R (l - 1) (pageLen * e + (k - 1))) (sym on ∙ n) m)
 
@@ -189,23 +189,23 @@ descend-small t opened R zero e h = some {ps = []} (omega arith) h
 descend-small t opened R (suc l) e h = cond-all (Small (suc l) opened) (eqb (lookUp t opened R l e) 0) (λ z. none)
     (λ z. passing-small _ (descend-small t opened R l _ (look-entry t opened R l e (eqb-false _ 0 z))))
 
-small-start : {l opened : ℕ} {w : Finding ℕ (List Pass)} → Small l opened w → {s : Start} → searchedOf w ≡ At s → (s .read ≤ l) × (s .block ≤ opened)
+small-start : {l opened : ℕ} {w : Finding ℕ (List Pass)} → Small l opened w → {s : PathStart} → searchedOf w ≡ At s → (s .read ≤ l) × (s .block ≤ opened)
 small-start none e = absurd (let z : _≡_ {A = ℕ} 0 1 = cc in omega arith)
-small-start (some {n} {ps} h g) {s} e = let i : s ≡ startOf n ps = cc in rw i (h, g)
+small-start (some {n} {ps} h g) {s} e = let i : s ≡ pathStart n ps = cc in rw i (h, g)
 
 -- where no page is passed yet, few are read
-pub none-read : {n : ℕ} {s : Start} → s ≡ startOf n [] → s .read ≤ 2
+pub none-read : {n : ℕ} {s : PathStart} → s ≡ pathStart n [] → s .read ≤ 2
 none-read e = rw e (omega arith)
 
 -- the pages read below a level, one for each lower level
 pub few-read : {ws : List ℕ} {opened l e : ℕ} → OnEntry ws opened l e → (t : ℕ) (R : Reader) {x : Searched} → x ≡ searchedOf (descend t opened R l e)
-    → {s : Start} → x ≡ At s → s .read ≤ 2
+    → {s : PathStart} → x ≡ At s → s .read ≤ 2
 few-read {opened = opened} {l} {e} h t R q n =
     omega (arith, small-start (descend-small t opened R l e (h .entry)) (sym q ∙ n), h .level .three)
 
 -- ---- the whole search
 module _ (t opened : ℕ) (R : Reader) where
-  pub search-empty : opened ≡ 0 → {s : Start} → s ≡ startOf 0 [] → At s ≡ searchedOf (search t opened R)
+  pub search-empty : opened ≡ 0 → {s : PathStart} → s ≡ pathStart 0 [] → At s ≡ searchedOf (search t opened R)
   unfolding search
   search-empty z q = rw (eq-eqb opened 0 z) (ap At q)
 
@@ -215,7 +215,7 @@ module _ (t opened : ℕ) (R : Reader) where
     search-is = rw (ne-eqb opened 0 z, ← top, ← look)
 
     -- the top page has no entry up to t,
-    pub search-before : k ≡ 0 → {s r : Start} → s ≡ startOf 0 [] → r ≡ passOver l 0 s → At r ≡ searchedOf (search t opened R)
+    pub search-before : k ≡ 0 → {s r : PathStart} → s ≡ pathStart 0 [] → r ≡ passOver l 0 s → At r ≡ searchedOf (search t opened R)
     search-before q e m = rw (search-is, eq-eqb k 0 q) (searched-on (record { level = l; number = 0 }) (found 0 []) (ap At (sym e)) m)
 
     -- or the search goes down from its last.
@@ -223,7 +223,7 @@ module _ (t opened : ℕ) (R : Reader) where
       pub search-stop : x ≡ Unsound → Unsound ≡ searchedOf (search t opened R)
       search-stop n = rw (search-is, ne-eqb k 0 q) (searched-stop (record { level = l; number = 0 }) (descend t opened R l (k - 1)) (sym on ∙ n))
 
-      pub search-on : {s r : Start} → x ≡ At s → r ≡ passOver l 0 s → At r ≡ searchedOf (search t opened R)
+      pub search-on : {s r : PathStart} → x ≡ At s → r ≡ passOver l 0 s → At r ≡ searchedOf (search t opened R)
       search-on n m = rw (search-is, ne-eqb k 0 q) (searched-on (record { level = l; number = 0 }) (descend t opened R l (k - 1)) (sym on ∙ n) m)
 
 -- the top page is read whenever a block is opened
@@ -258,6 +258,6 @@ search-small t opened R =
     let k = look-entry t opened R l 0 (eqb-false _ 0 z) in
     small-more (top-below opened) (passing-small top (descend-small t opened R l (lookUp t opened R l 0 - 1) (omega arith)))))
 
-pub search-few : (t opened : ℕ) (R : Reader) {x : Searched} → x ≡ searchedOf (search t opened R) → {s : Start} → x ≡ At s
+pub search-few : (t opened : ℕ) (R : Reader) {x : Searched} → x ≡ searchedOf (search t opened R) → {s : PathStart} → x ≡ At s
     → (s .read ≤ 3) × (s .block ≤ opened)
 search-few t opened R q n = small-start (search-small t opened R) (sym q ∙ n)

@@ -6,20 +6,20 @@ use lib.Dec.{eqb}
 use lib.ListN.{length}
 use Rattle.layout.specs.Sizes.{pageLen, dirStart}
 use Rattle.calls.specs.Walk.{Finding, unsound, found, Pass, entries}
-use Rattle.calls.specs.Step.{passedOn}
-use Rattle.timeslice.specs.declared.index.Start.{Start}
+use Rattle.calls.specs.LookBack.{passedOn}
+use Rattle.timeslice.specs.declared.index.PathStart.{PathStart}
 use Rattle.timeslice.specs.declared.index.Searched.{Searched}
 use Rattle.timeslice.specs.declared.index.Searched.the-variants.{At, Unsound}
 
-abbrev pub startOf : ℕ → List Pass → Start
-startOf n ps = record { block = n; read = length ps; page0 = passedOn 0 ps; page1 = passedOn 1 ps; page2 = passedOn 2 ps }
+abbrev pub pathStart : ℕ → List Pass → PathStart
+pathStart n ps = record { block = n; read = length ps; page0 = passedOn 0 ps; page1 = passedOn 1 ps; page2 = passedOn 2 ps }
 
 abbrev pub searchedOf : Finding ℕ (List Pass) → Searched
 searchedOf unsound = Unsound
-searchedOf (found n ps) = At (startOf n ps)
+searchedOf (found n ps) = At (pathStart n ps)
 
 -- one page more, passed before the others
-abbrev pub passOver : ℕ → ℕ → Start → Start
+abbrev pub passOver : ℕ → ℕ → PathStart → PathStart
 passOver l e s = record {
   block = s .block;
   read = s .read + 1;

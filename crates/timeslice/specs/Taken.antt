@@ -8,7 +8,7 @@ use Rattle.layout.specs.declared.settings.Settings.{Settings}
 use Rattle.layout.specs.Sizes.{blockHead, recordLen, rowLen}
 use Rattle.layout.specs.Settings.{Within}
 use Rattle.calls.specs.Calls.{Row}
-use Rattle.calls.specs.Step.{rowWords}
+use Rattle.calls.specs.LookBack.{rowWords}
 use Rattle.timeslice.specs.declared.rows.Took.{Took}
 use Rattle.timeslice.specs.declared.rows.Took.the-variants.{Rows, TooMany}
 

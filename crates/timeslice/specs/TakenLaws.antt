@@ -15,7 +15,7 @@ use Rattle.layout.specs.Fields.{tagWord, readingWord, fromWord, toWord}
 use Rattle.layout.specs.Parts.{slotWord}
 use Rattle.calls.specs.Calls.{Row}
 use Rattle.calls.specs.Walk.{rowOf, rowsOf}
-use Rattle.calls.specs.Step.{rowWords}
+use Rattle.calls.specs.LookBack.{rowWords}
 use Rattle.timeslice.specs.declared.rows.Took.{Took}
 use Rattle.timeslice.specs.declared.rows.Took.the-variants.{Rows, TooMany}
 use Rattle.timeslice.specs.Taken.{Takes, all, many}

@@ -16,7 +16,7 @@ use Rattle.layout.specs.Parts.{blockWord}
 use Rattle.layout.specs.OnWords.{Held}
 use Rattle.calls.specs.Calls.{Row}
 use Rattle.calls.specs.Walk.{Reader, Walk, unsound, found, rowsOf, neighbour, visit, path}
-use Rattle.calls.specs.Step.{rowWords}
+use Rattle.calls.specs.LookBack.{rowWords}
 use Rattle.timeslice.specs.declared.Counts.{Counts}
 use Rattle.timeslice.specs.declared.walk.Walked.{Walked}
 use Rattle.timeslice.specs.declared.walk.Walked.the-variants.{Done, Unsound}
@@ -34,20 +34,20 @@ pub record Filled (d : ℕ) (rows list : List ℕ) (n : Counts) (r : List Row) (
   pub list-words : list′ ≡ sets list (n .blocks) l
 
 -- A walk is told, behind n: what it finds is filled in; or it is unsound; or with its rows there are more than d.
-pub data Told (d : ℕ) (rows list : List ℕ) (n : Counts) : Walk → Walked → List ℕ → List ℕ → Type 0 where
+pub data WalkTold (d : ℕ) (rows list : List ℕ) (n : Counts) : Walk → Walked → List ℕ → List ℕ → Type 0 where
   done : {r : List Row} {l : List ℕ} {m : Counts} {rows′ list′ : List ℕ} → Filled d rows list n r l m rows′ list′
-      → Told d rows list n (found r l) (Done m) rows′ list′
-  over : {r : List Row} {l : List ℕ} {rows′ list′ : List ℕ} → d < n .rows + length r → Told d rows list n (found r l) Unsound rows′ list′
-  bad : {rows′ list′ : List ℕ} → Told d rows list n unsound Unsound rows′ list′
+      → WalkTold d rows list n (found r l) (Done m) rows′ list′
+  over : {r : List Row} {l : List ℕ} {rows′ list′ : List ℕ} → d < n .rows + length r → WalkTold d rows list n (found r l) Unsound rows′ list′
+  bad : {rows′ list′ : List ℕ} → WalkTold d rows list n unsound Unsound rows′ list′
 
 -- A visit and a path, with any fuel that is enough.
 pub record VisitTold (s : Settings) (t : ℕ) (R : Reader) (lower upper number : ℕ) (rows list : List ℕ) (n : Counts) (a : Walked) (rows′ list′ : List ℕ)
     : Type 0 where
-  pub told : (f : ℕ) → upper - lower < f → Told (s .tags) rows list n (visit (s .block) t R f lower upper number) a rows′ list′
+  pub told : (f : ℕ) → upper - lower < f → WalkTold (s .tags) rows list n (visit (s .block) t R f lower upper number) a rows′ list′
 
 pub record PathTold (s : Settings) (t : ℕ) (R : Reader) (number : ℕ) (rows list : List ℕ) (n : Counts) (a : Walked) (rows′ list′ : List ℕ)
     : Type 0 where
-  pub told : (f : ℕ) → number < f → Told (s .tags) rows list n (path (s .block) t R f number) a rows′ list′
+  pub told : (f : ℕ) → number < f → WalkTold (s .tags) rows list n (path (s .block) t R f number) a rows′ list′
 
 -- ---- the parts of a path
 -- a block with its rows
@@ -61,11 +61,11 @@ upOf R n = blockWord (R .block n) upWord
 -- a path block: its up is below it, it is listed, its rows are taken, and its left neighbour is next
 pub data Climbs (s : Settings) (t : ℕ) (R : Reader) (rows list : List ℕ) (n : Counts) (number : ℕ) : Climbed → List ℕ → List ℕ → Type 0 where
   on : {i : Step} {rows′ list′ : List ℕ} → upOf R number < number → i .up ≡ upOf R number → i .next ≡ neighbour R number
-      → Told (s .tags) rows list n (blockWalk s t (R .block number) number) (Done (i .counts)) rows′ list′
+      → WalkTold (s .tags) rows list n (blockWalk s t (R .block number) number) (Done (i .counts)) rows′ list′
       → Climbs s t R rows list n number (On i) rows′ list′
   above : {rows′ list′ : List ℕ} → number ≤ upOf R number → Climbs s t R rows list n number NotOn rows′ list′
   full : {rows′ list′ : List ℕ} → upOf R number < number
-      → Told (s .tags) rows list n (blockWalk s t (R .block number) number) Unsound rows′ list′
+      → WalkTold (s .tags) rows list n (blockWalk s t (R .block number) number) Unsound rows′ list′
       → Climbs s t R rows list n number NotOn rows′ list′
 
 -- ---- what is asked

@@ -6,10 +6,11 @@ use native.Mathlib.Omega.{arith}
 use lib.ListN.{length, set, length-append}
 use Rattle.layout.specs.declared.settings.Settings.{Settings}
 use Rattle.layout.specs.declared.head.Head.{Head}
+use Rattle.layout.specs.Parts.{blockWord}
 use Rattle.layout.specs.PartsLaws.{BlockPart}
 use Rattle.calls.specs.Calls.{Row}
 use Rattle.calls.specs.Walk.{Walk, unsound, found, andThen}
-use Rattle.calls.specs.Step.{reader}
+use Rattle.calls.specs.LookBack.{reader}
 use Rattle.timeslice.specs.declared.Counts.{Counts}
 use Rattle.timeslice.specs.declared.rows.Took.{Took}
 use Rattle.timeslice.specs.declared.rows.Took.the-variants.{Rows, TooMany as MoreThan}
@@ -17,7 +18,7 @@ use Rattle.timeslice.specs.declared.walk.Walked.{Walked}
 use Rattle.timeslice.specs.declared.walk.Walked.the-variants.{Done, Unsound}
 use Rattle.timeslice.specs.Taken.{Takes, all, many as more}
 use Rattle.timeslice.specs.TakenLaws.{sets-append, rows-append}
-use Rattle.timeslice.specs.Told.{Filled, Told, done, over, bad, Readable, Blocks, Buffers}
+use Rattle.timeslice.specs.Told.{Filled, WalkTold, done, over, bad, Readable, Blocks, Buffers}
 
 -- ---- one walk after another
 module _ (d : ℕ) (rows list : List ℕ) (n : Counts) where
@@ -32,27 +33,27 @@ module _ (d : ℕ) (rows list : List ℕ) (n : Counts) where
     list-words = b .list-words ∙ rw (a .list-words, a .blocks) (sym (sets-append list (n .blocks) l l′));
   }
 
-  pub told-then : {v w : Walk} {m : Counts} {a : Walked} {rows₁ list₁ rows₂ list₂ : List ℕ} → Told d rows list n v (Done m) rows₁ list₁
-      → Told d rows₁ list₁ m w a rows₂ list₂ → Told d rows list n (andThen v w) a rows₂ list₂
+  pub told-then : {v w : Walk} {m : Counts} {a : Walked} {rows₁ list₁ rows₂ list₂ : List ℕ} → WalkTold d rows list n v (Done m) rows₁ list₁
+      → WalkTold d rows₁ list₁ m w a rows₂ list₂ → WalkTold d rows list n (andThen v w) a rows₂ list₂
   told-then (done {r = r} {l = l} a) (done {r = r′} {l = l′} {m = k} b) = done {r = r ++ r′} {l = l ++ l′} {m = k} (filled-then a b)
   told-then (done {r = r} a) (over {r = r′} h) = over {r = r ++ r′} (simp length-append (omega arith))
   told-then (done a) bad = bad
 
-  pub told-stop : (w : Walk) {v : Walk} {rows₁ list₁ : List ℕ} → Told d rows list n v Unsound rows₁ list₁
-      → Told d rows list n (andThen v w) Unsound rows₁ list₁
+  pub told-stop : (w : Walk) {v : Walk} {rows₁ list₁ : List ℕ} → WalkTold d rows list n v Unsound rows₁ list₁
+      → WalkTold d rows list n (andThen v w) Unsound rows₁ list₁
   told-stop unsound (over h) = bad
   told-stop unsound bad = bad
   told-stop (found r l) (over {r = r′} h) = over {r = r′ ++ r} (simp length-append (omega arith))
   told-stop (found r l) bad = bad
 
   -- nothing found
-  pub told-none : n .rows ≤ d → Told d rows list n (found [] []) (Done n) rows list
+  pub told-none : n .rows ≤ d → WalkTold d rows list n (found [] []) (Done n) rows list
   told-none h =
       done {r = []} {l = []} {m = n}
       (record { given = omega arith; pages = refl; blocks = omega arith; fits = h; row-words = refl; list-words = refl })
 
 -- a walk told with counts was found
-pub told-found : {d : ℕ} {rows list rows′ list′ : List ℕ} {n m : Counts} {w : Walk} → Told d rows list n w (Done m) rows′ list′
+pub told-found : {d : ℕ} {rows list rows′ list′ : List ℕ} {n m : Counts} {w : Walk} → WalkTold d rows list n w (Done m) rows′ list′
     → (r : List Row) × (l : List ℕ) × (w ≡ found r l) × Filled d rows list n r l m rows′ list′
 told-found (done {r = r} {l = l} a) = (r, l, refl, a)
 
@@ -63,21 +64,21 @@ oneMore given n = record { rows = given; pages = n .pages; blocks = n .blocks + 
 
 module _ {d : ℕ} {rows list : List ℕ} {n : Counts} {number : ℕ} where
   listed-filled : {r : List Row} {given : ℕ} {rows′ : List ℕ} → Takes d rows (n .rows) r (Rows given) rows′
-      → Told d rows list n (found r (number ∷ [])) (Done (oneMore given n)) rows′ (set list (n .blocks) number)
+      → WalkTold d rows list n (found r (number ∷ [])) (Done (oneMore given n)) rows′ (set list (n .blocks) number)
   listed-filled {r} (all e h q) =
       done {r = r} {l = number ∷ []} (record { given = e; pages = refl; blocks = refl; fits = h; row-words = q; list-words = refl })
 
   listed-over : {r : List Row} {rows′ list′ : List ℕ} → Takes d rows (n .rows) r MoreThan rows′
-      → Told d rows list n (found r (number ∷ [])) Unsound rows′ list′
+      → WalkTold d rows list n (found r (number ∷ [])) Unsound rows′ list′
   listed-over {r} (more h) = over {r = r} h
 
   -- its rows taken, or too many
   module _ {r : List Row} {x : Took} {rows′ : List ℕ} (taken : Takes d rows (n .rows) r x rows′) where
     pub listed-all : {given : ℕ} → x ≡ Rows given
-        → Told d rows list n (found r (number ∷ [])) (Done (oneMore given n)) rows′ (set list (n .blocks) number)
+        → WalkTold d rows list n (found r (number ∷ [])) (Done (oneMore given n)) rows′ (set list (n .blocks) number)
     listed-all e = listed-filled (rw e at taken)
 
-    pub listed-many : {list′ : List ℕ} → x ≡ MoreThan → Told d rows list n (found r (number ∷ [])) Unsound rows′ list′
+    pub listed-many : {list′ : List ℕ} → x ≡ MoreThan → WalkTold d rows list n (found r (number ∷ [])) Unsound rows′ list′
     listed-many e = listed-over (rw e at taken)
 
 -- ---- the block that the code is handed is the reader's
@@ -91,6 +92,10 @@ part-is r p = p .is ∙ rw (r .is)
 pub block-is : {ws : List ℕ} {h : Head} {number : ℕ} {block : List ℕ} → Readable ws h → BlockPart (h .settings) ws number block
     → block ≡ reader ws .block number
 block-is r p = part-is (blocks-of r) p
+
+-- so a word of the one is the other's
+pub word-is : {block it : List ℕ} (j : ℕ) {w : ℕ} → block ≡ it → w ≡ blockWord block j → w ≡ blockWord it j
+word-is j is e = e ∙ rw is
 
 -- buffers that a call was lent are as long as before
 pub buffers-same : {s : Settings} {rows list rows₁ list₁ : List ℕ} → Buffers s rows list → length rows₁ ≡ length rows → length list₁ ≡ length list

@@ -2,7 +2,7 @@
 use mathlib.Core.Path.{_≡_, refl, sym}
 use mathlib.Core.Bool.{false}
 use mathlib.Core.List.{List, [], _∷_, _++_, append-assoc}
-use Prim.Native.Nat.{ℕ, zero, suc, _+_, _<_}
+use Prim.Native.Nat.{ℕ, zero, suc, _+_, _≤_, _<_}
 use native.Mathlib.Omega.{arith}
 use lib.Dec.{eqb, leb}
 use lib.ListN.{length, length-append}
@@ -15,16 +15,23 @@ use Rattle.calls.specs.Calls.{Row}
 use Rattle.calls.specs.Walk.{Reader, Walk, unsound, found, listed, rowsOf, visit}
 use Rattle.timeslice.specs.Listed.{rowsAt, rowsIn}
 
+-- enough fuel is more than none
+pub with-fuel : (P : ℕ → Type 0) (k : ℕ) → ((f : ℕ) → k ≤ f → P (suc f)) → (f : ℕ) → k < f → P f
+with-fuel P k g zero q = absurd (omega arith)
+with-fuel P k g (suc f) q = g f (omega arith)
+
 -- ---- a visit lists fewer blocks than its gap
 pub data Short (lower upper : ℕ) : Walk → Type 0 where
   none : Short lower upper unsound
   few : {r : List Row} {l : List ℕ} → length l + lower < upper → Short lower upper (found r l)
 
-listed-short : {lower upper n : ℕ} (r : List Row) {v w : Walk} → Short n upper v → Short lower n w → Short lower upper (listed n r v w)
-listed-short r none none = none
-listed-short r none (few h) = none
-listed-short r (few h) none = none
-listed-short {n = n} r (few {l = l} g) (few {l = l′} h) = few {l = n ∷ (l ++ l′)} (simp length-append (omega arith))
+-- a block listed, with two walks behind it
+pub listed-short : {a b lower c upper : ℕ} (n : ℕ) (r : List Row) {v w : Walk} → Short a b v → Short lower c w → b + c ≤ upper + a
+    → Short lower upper (listed n r v w)
+listed-short n r none none e = none
+listed-short n r none (few h) e = none
+listed-short n r (few h) none e = none
+listed-short n r (few {l = l} g) (few {l = l′} h) e = few {l = n ∷ (l ++ l′)} (simp length-append (omega arith))
 
 pub visit-short : (b t : ℕ) (R : Reader) (fuel lower upper n : ℕ) → lower < upper → Short lower upper (visit b t R fuel lower upper n)
 unfolding visit
@@ -37,7 +44,7 @@ visit-short b t R (suc fuel) lower upper n h =
     (λ e. cond-all P (leb n lower) (λ i. none)
     (λ i. let p = leb-false n lower i in cond-all P (leb upper n) (λ j. none)
     (λ j. let q = leb-false upper n j in cond-all P (leb (blockWord (R .block n) closedWord) t) (λ k. few {l = n ∷ []} (omega arith))
-    (λ k. listed-short (rowsOf b t (R .block n)) (v q) (w p)))))
+    (λ k. listed-short n (rowsOf b t (R .block n)) (v q) (w p) (omega arith)))))
 
 pub short-found : {lower upper : ℕ} {w : Walk} {r : List Row} {l : List ℕ} → Short lower upper w → w ≡ found r l → length l + lower < upper
 short-found none e = absurd (let z : _≡_ {A = ℕ} 0 1 = cc in omega arith)

@@ -16,6 +16,7 @@ use Rattle.timeslice.specs.declared.rows.Took.the-variants.{Rows, TooMan
 use Rattle.timeslice.specs.Taken.{Takes, all}
 use Rattle.timeslice.specs.TakenLaws.{taken-more, still-many}
 use Rattle.timeslice.specs.Listed.{rowsAt, rowsIn}
+use Rattle.timeslice.specs.ToldLaws.{word-is}
 use Rattle.timeslice.specs.VisitLaws.{rows-append}
 
 -- every block of a list is numbered, so that one is
@@ -30,16 +31,12 @@ module _ (b t : ℕ) (R : Reader) (n d : ℕ) (buffer : List ℕ) (given : ℕ) 
   -- It closed by t,
   pub block-ended : closed ≤ t → given ≤ d → Takes d buffer given (rowsAt b t R n) (Rows given) buffer
   unfolding rowsAt
-  block-ended g f =
-      let e : closed ≡ blockWord (R .block n) closedWord = c ∙ rw is in
-      rw (le-leb _ t (rw e at g)) (all {now = given} (omega arith) f refl)
+  block-ended g f = rw (le-leb _ t (rw (word-is closedWord is c) at g)) (all {now = given} (omega arith) f refl)
 
   -- or its rows are taken.
   pub block-taken : t < closed → {x : Took} {after : List ℕ} → Takes d buffer given (rowsOf b t block) x after → Takes d buffer given (rowsAt b t R n) x after
   unfolding rowsAt
-  block-taken g taken =
-      let e : closed ≡ blockWord (R .block n) closedWord = c ∙ rw is in
-      rw (lt-leb _ t (rw e at g)) (rw is at taken)
+  block-taken g taken = rw (lt-leb _ t (rw (word-is closedWord is c) at g)) (rw is at taken)
 
 -- ---- the blocks so far, and one more
 pub listed-none : (b t : ℕ) (R : Reader) (d : ℕ) (buffer : List ℕ) (given : ℕ) → given ≤ d → Takes d buffer given (rowsIn b t R []) (Rows given) buffer

@@ -1,4 +1,5 @@
 // The search in the index: from the top level's page down to the block that starts the path.
+use layout::PAGE;
 use layout::head::Head;
 use layout::parts;
 ghost use mathlib.Core.Path.{_≡_};
@@ -9,15 +10,12 @@ ghost use lib.Dec.{eqb};
 ghost use lib.ListN.{length};
 ghost use Rattle.layout.specs.Sizes.{pageLen};
 ghost use Rattle.calls.specs.Walk.{lastUpTo, entries as entriesOf, topLevel, lookUp, descend as descendOf, search as searchOf};
-ghost use Rattle.calls.specs.Step.{reader};
-ghost use Rattle.timeslice.specs.Searching.{startOf, passOver, searchedOf, Level, OnPage, OnEntry};
+ghost use Rattle.calls.specs.LookBack.{reader};
+ghost use Rattle.timeslice.specs.Searching.{pathStart, passOver, searchedOf, Level, OnPage, OnEntry};
 ghost use Rattle.timeslice.specs.Told.{Readable};
 
-// the words of a page
-const PAGE_LEN: u32 = 16;
-
 // The block that starts the path, 0 if there is none; the pages read, and on each level the page passed, OPEN if none.
-pub struct Start {
+pub struct PathStart {
     pub block: u32,
     pub read: u32,
     pub page0: u32,
@@ -26,7 +24,7 @@ pub struct Start {
 }
 
 pub enum Searched {
-    At(Start),
+    At(PathStart),
     Unsound,
 }
 
@@ -40,12 +38,12 @@ fn passed_on(on: u32, l: u32, e: u32, before: u32) -> u32
     before
 }
 
-impl Start {
+impl PathStart {
     // At a block, with no page passed.
-    fn at(block: u32) -> Start
-        ensures { λ r. ⌜ r ≡ startOf block [] ⌝ }
+    fn at(block: u32) -> PathStart
+        ensures { λ r. ⌜ r ≡ pathStart block [] ⌝ }
     {
-        Start {
+        PathStart {
             block,
             read: 0,
             page0: layout::OPEN,
@@ -55,11 +53,11 @@ impl Start {
     }
 
     // Page e of level l is passed before the others.
-    fn passing(self, l: u32, e: u32) -> Start
+    fn passing(self, l: u32, e: u32) -> PathStart
         requires { ⌜ self .read ≤ 2 ⌝ }
         ensures { λ r. ⌜ r ≡ passOver l e self ⌝ }
     {
-        Start {
+        PathStart {
             block: self.block,
             read: self.read + 1,
             page0: passed_on(0, l, e, self.page0),
@@ -93,11 +91,11 @@ fn entries(opened: u32, l: u32) -> u32
     if l == 0 {
         return opened;
     }
-    let first = (opened + (PAGE_LEN - 1)) / PAGE_LEN;
+    let first = (opened + (PAGE - 1)) / PAGE;
     if l == 1 {
         return first;
     }
-    (first + (PAGE_LEN - 1)) / PAGE_LEN
+    (first + (PAGE - 1)) / PAGE
 }
 
 // The lowest level that has all entries on one page.
@@ -105,10 +103,10 @@ fn top_level(opened: u32) -> u32
     requires { ⌜ opened ≤ 4096 ⌝ }
     ensures { λ r. ⌜ r ≡ topLevel opened ⌝ }
 {
-    if entries(opened, 0) <= PAGE_LEN {
+    if entries(opened, 0) <= PAGE {
         return 0;
     }
-    if entries(opened, 1) <= PAGE_LEN {
+    if entries(opened, 1) <= PAGE {
         return 1;
     }
     2
@@ -120,11 +118,11 @@ fn on_page(opened: u32, l: u32, e: u32) -> u32
     requires { ⌜ pageLen * e < entriesOf opened l ⌝ }
     ensures { λ r. ⌜ r ≡ min pageLen (entriesOf opened l - pageLen * e) ⌝ }
 {
-    let left = entries(opened, l) - PAGE_LEN * e;
-    if left < PAGE_LEN {
+    let left = entries(opened, l) - PAGE * e;
+    if left < PAGE {
         return left;
     }
-    PAGE_LEN
+    PAGE
 }
 
 // What page e of level l gives: the page is a part in the middle of its level.
@@ -143,14 +141,14 @@ fn descend(store: &[u32], opened: u32, t: u32, l: u32, e: u32) -> Searched
     ensures { λ r. ⌜ r ≡ searchedOf (descendOf t opened (reader (now (store .entry))) l e) ⌝ }
 {
     if l == 0 {
-        return Searched::At(Start::at(e + 1));
+        return Searched::At(PathStart::at(e + 1));
     }
     let below = l - 1;
     let k = look_up(store, opened, t, below, e);
     if k == 0 {
         return Searched::Unsound;
     }
-    match descend(store, opened, t, below, PAGE_LEN * e + (k - 1)) {
+    match descend(store, opened, t, below, PAGE * e + (k - 1)) {
         Searched::Unsound => Searched::Unsound,
         Searched::At(found) => Searched::At(found.passing(below, e)),
     }
@@ -163,12 +161,12 @@ pub(crate) fn search(store: &[u32], h: Head, t: u32) -> Searched
 {
     let opened = h.cursor.opened;
     if opened == 0 {
-        return Searched::At(Start::at(0));
+        return Searched::At(PathStart::at(0));
     }
     let top = top_level(opened);
     let k = look_up(store, opened, t, top, 0);
     if k == 0 {
-        return Searched::At(Start::at(0).passing(top, 0));
+        return Searched::At(PathStart::at(0).passing(top, 0));
     }
     match descend(store, opened, t, top, k - 1) {
         Searched::Unsound => Searched::Unsound,

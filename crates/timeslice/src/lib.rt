@@ -8,15 +8,16 @@ use index::Searched;
 use layout::head;
 use layout::head::Head;
 use layout::head::HeadAnswer;
+use layout::parts;
 use layout::refusal;
 use walk::Walked;
 ghost use mathlib.Core.Path.{_≡_};
 ghost use Rattle.layout.specs.Settings.{Within};
 ghost use Rattle.layout.specs.HeadLaws.{HeadRead};
 ghost use Rattle.calls.specs.Refusals.{refusal as refusalOf};
-ghost use Rattle.calls.specs.Step.{lookAt, zeros};
+ghost use Rattle.calls.specs.LookBack.{lookAt};
 ghost use Rattle.timeslice.specs.Told.{Readable, Buffers};
-ghost use Rattle.timeslice.specs.Answer.{LookedBack, Sees, Answers, ownTests};
+ghost use Rattle.timeslice.specs.Answer.{LookedBack, Slices, Answers, ownTests};
 
 // Rows given, pages read and blocks listed.
 pub struct Counts {
@@ -38,8 +39,8 @@ pub enum Looked {
     Refused(u32),
 }
 
-// What the walk comes to.
-pub enum Seen {
+// What search and path come to: a slice, with its rows and its list in the two buffers; or a word of the store is unsound.
+pub enum Sliced {
     Whole(Slice),
     Unsound,
 }
@@ -59,33 +60,22 @@ fn turned_away(words: usize, h: Head, second: u32, rows: usize, list: usize) -> 
         return refusal::LATE;
     }
     if rows < layout::ROW_LEN * h.settings.tags as usize {
-        return refusal::BUFFERS;
+        return refusal::SHORT_BUFFER;
     }
     if list < h.settings.blocks as usize {
-        return refusal::BUFFERS;
+        return refusal::SHORT_BUFFER;
     }
     0
 }
 
-// Every word of a buffer set to zero.
-fn zero(buffer: &mut [u32])
-    ensures { λ _. ⌜ now (buffer .exit) ≡ zeros (now (buffer .entry)) ⌝ }
-{
-    let mut i = 0;
-    while i < buffer.len() {
-        buffer[i] = 0;
-        i += 1;
-    }
-}
-
 // Search, then the path from the block found.
-fn look(store: &[u32], h: Head, second: u32, rows: &mut [u32], list: &mut [u32]) -> Seen
+fn look(store: &[u32], h: Head, second: u32, rows: &mut [u32], list: &mut [u32]) -> Sliced
     requires { ⌜ Readable (now store) h ⌝ }
     requires { ⌜ Buffers (h .settings) (now rows) (now list) ⌝ }
-    ensures { λ r. ⌜ Sees (lookAt (now (store .entry)) second) (now (rows .entry)) (now (list .entry)) r (now (rows .exit)) (now (list .exit)) ⌝ }
+    ensures { λ r. ⌜ Slices (lookAt (now (store .entry)) second) (now (rows .entry)) (now (list .entry)) r (now (rows .exit)) (now (list .exit)) ⌝ }
 {
     let Searched::At(found) = index::search(store, h, second) else {
-        return Seen::Unsound;
+        return Sliced::Unsound;
     };
     let none = Counts {
         rows: 0,
@@ -93,9 +83,9 @@ fn look(store: &[u32], h: Head, second: u32, rows: &mut [u32], list: &mut [u32])
         blocks: 0,
     };
     let Walked::Done(counts) = walk::path(store, h, found.block, second, rows, list, none) else {
-        return Seen::Unsound;
+        return Sliced::Unsound;
     };
-    Seen::Whole(Slice {
+    Sliced::Whole(Slice {
         counts,
         page0: found.page0,
         page1: found.page1,
@@ -110,10 +100,10 @@ fn answer(store: &[u32], h: Head, second: u32, rows: &mut [u32], list: &mut [u32
     ensures { λ r. ⌜ Answers (now (store .entry)) second (now (rows .entry)) (now (list .entry)) r (now (rows .exit)) (now (list .exit)) ⌝ }
 {
     match look(store, h, second, rows, list) {
-        Seen::Whole(slice) => Looked::Answered(slice),
-        Seen::Unsound => {
-            zero(rows);
-            zero(list);
+        Sliced::Whole(slice) => Looked::Answered(slice),
+        Sliced::Unsound => {
+            parts::zero_all(rows);
+            parts::zero_all(list);
             Looked::Refused(refusal::UNSOUND)
         }
     }

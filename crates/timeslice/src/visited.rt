@@ -6,7 +6,7 @@ use layout::parts;
 use layout::settings::Settings;
 ghost use Rattle.base.specs.Sums.{All};
 ghost use Rattle.layout.specs.Address.{Numbered};
-ghost use Rattle.calls.specs.Step.{reader};
+ghost use Rattle.calls.specs.LookBack.{reader};
 ghost use Rattle.timeslice.specs.Taken.{Takes};
 ghost use Rattle.timeslice.specs.Told.{Blocks};
 ghost use Rattle.timeslice.specs.Listed.{rowsAt, rowsIn, RowBuffer};

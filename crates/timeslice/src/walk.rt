@@ -10,9 +10,9 @@ use layout::settings::Settings;
 ghost use mathlib.Core.Path.{_≡_};
 ghost use Rattle.layout.specs.Address.{Numbered};
 ghost use Rattle.calls.specs.Walk.{neighbour as neighbourOf};
-ghost use Rattle.calls.specs.Step.{reader};
+ghost use Rattle.calls.specs.LookBack.{reader};
 ghost use Rattle.timeslice.specs.Taken.{RowRoom};
-ghost use Rattle.timeslice.specs.Told.{Told, VisitTold, PathTold, blockWalk, Climbs, Readable, Blocks, Space, Gap, Reach, Under};
+ghost use Rattle.timeslice.specs.Told.{WalkTold, VisitTold, PathTold, blockWalk, Climbs, Readable, Blocks, Space, Gap, Reach, Under};
 ghost use Rattle.timeslice.specs.Listed.{Enters, VisitListed, InsideListed, ListRoom, InsideRoom};
 
 // What a part of the walk comes to: all that is counted so far, or a link that is unsound or more rows than tags.
@@ -54,7 +54,7 @@ fn list_block(
 ) -> Walked
     requires { ⌜ RowRoom s (now block) (n .rows) (now rows) ⌝ }
     requires { ⌜ Space s n (now rows) (now list) ⌝ }
-    ensures { λ r. ⌜ Told (s .tags) (now (rows .entry)) (now (list .entry)) n (blockWalk s t (now (block .entry)) number)
+    ensures { λ r. ⌜ WalkTold (s .tags) (now (rows .entry)) (now (list .entry)) n (blockWalk s t (now (block .entry)) number)
         r (now (rows .exit)) (now (list .exit)) ⌝ }
 {
     let at = n.blocks as usize;
@@ -122,24 +122,18 @@ fn visit(
     let block = parts::block(store, s, number);
     let child = parts::block_word(block, fields::CHILD);
     let left = parts::block_word(block, fields::LEFT);
-    match enter(store, s, number, upper, child, t, list, listed) {
+    let after = match enter(store, s, number, upper, child, t, list, listed) {
         Entered::Unsound => 0,
-        Entered::Ended(m) => match enter(store, s, lower, number, left, t, list, m) {
-            Entered::Unsound => 0,
-            Entered::Ended(k) => k,
-            Entered::Within(k) => visit(store, s, lower, number, left, t, list, k),
-        },
-        Entered::Within(m) => {
-            let after = visit(store, s, number, upper, child, t, list, m);
-            if after == 0 {
-                return 0;
-            }
-            match enter(store, s, lower, number, left, t, list, after) {
-                Entered::Unsound => 0,
-                Entered::Ended(k) => k,
-                Entered::Within(k) => visit(store, s, lower, number, left, t, list, k),
-            }
-        }
+        Entered::Ended(m) => m,
+        Entered::Within(m) => visit(store, s, number, upper, child, t, list, m),
+    };
+    if after == 0 {
+        return 0;
+    }
+    match enter(store, s, lower, number, left, t, list, after) {
+        Entered::Unsound => 0,
+        Entered::Ended(k) => k,
+        Entered::Within(k) => visit(store, s, lower, number, left, t, list, k),
     }
 }
 

@@ -4,9 +4,11 @@ mod case;
 
 use console_io::sink;
 use console_io::sink::Next;
+use console_run::feed::COUNT_MOST;
 use console_run::feed::next_number;
 use console_text::gather::Fed;
 use console_text::gather::Gather;
+use console_text::gather::LINE_MOST;
 use libc::STDOUT_FILENO;
 
 // The line of `cases` that is being read, and how many cases were run and how many did not agree.
@@ -17,7 +19,7 @@ struct Tally {
 }
 
 // The line is complete: a case, unless it is empty.
-fn named(tally: Tally, line: &mut [u8; 80]) -> Tally {
+fn named(tally: Tally, line: &mut [u8; LINE_MOST]) -> Tally {
     let gather = tally.gather;
     let fresh = Gather::new();
     if gather.len == 0 {
@@ -42,7 +44,7 @@ fn named(tally: Tally, line: &mut [u8; 80]) -> Tally {
     }
 }
 
-fn read_byte(tally: Tally, byte: u8, line: &mut [u8; 80]) -> Tally {
+fn read_byte(tally: Tally, byte: u8, line: &mut [u8; LINE_MOST]) -> Tally {
     let gather = tally.gather;
     match gather.feed(line, byte) {
         Fed::More(longer) => Tally {
@@ -55,14 +57,14 @@ fn read_byte(tally: Tally, byte: u8, line: &mut [u8; 80]) -> Tally {
 }
 
 // Every line of `cases`. Nothing says that a file ends, so the bytes are counted down from a number that no file uses up.
-fn read_cases(list: i32, line: &mut [u8; 80]) -> Tally {
+fn read_cases(list: i32, line: &mut [u8; LINE_MOST]) -> Tally {
     let gather = Gather::new();
     let mut tally = Tally {
         gather,
         cases: 0,
         failed: 0,
     };
-    let mut bytes: u64 = 18446744073709551615;
+    let mut bytes = COUNT_MOST;
     while 0 < bytes {
         let Next::Byte(byte) = sink::next_byte(list) else {
             return named(tally, line);
@@ -79,7 +81,7 @@ fn main() {
         io::write_all(STDOUT_FILENO, b"the file cases is missing\n");
         return;
     }
-    let mut line = [0u8; 80];
+    let mut line = [0u8; LINE_MOST];
     let tally = read_cases(list, &mut line);
     if tally.cases == 0 {
         io::write_all(STDOUT_FILENO, b"the file cases names no case\n");

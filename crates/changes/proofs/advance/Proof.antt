@@ -21,9 +21,9 @@ enum-known-verdict-2 c = search needs
 
 advance-program-requires : tie.Need-advance-program-requires
 advance-program-requires c κs =
-    let a = c .before .before .before .before .before .before .before .before .before .args in
+    let a = c .before .before .before .before .before .before .before .args in
     advance-able (a .store .now) (a .second)
-    (sym (c .before .before .before .before .before .before .decide-advance .ensures) ∙ c .before .before .before .before .verdict2 .given .1)
+    (sym (c .before .before .before .before .decide-advance .ensures) ∙ c .before .before .verdict2 .given .1)
 
 same-length : tie.Need-same-length
 same-length c = search needs
@@ -42,10 +42,10 @@ same-length-2 c = search needs
 returns-2 : tie.Need-returns-2
 unfolding advance
 returns-2 c =
-    let a = c .before .before .before .before .before .before .before .before .before .before .before .before .args in
+    let a = c .before .before .before .before .before .before .before .before .before .before .args in
     carried-out (timeTests (a .store .now) (a .second) []) (a .store .now)
     (λ x. advanceProgram (x .settings) (x .cursor) (a .second))
-    (sym (c .before .before .before .before .before .before .before .before .before .decide-advance .ensures) ∙ c .before .before .before .before .before .before .before .verdict2 .given .1)
+    (sym (c .before .before .before .before .before .before .before .decide-advance .ensures) ∙ c .before .before .before .before .before .verdict2 .given .1)
     (c .before .before .advance-program .ensures)
 
 pub advance-spec : {M : Type 1} → statement M

@@ -21,9 +21,9 @@ enum-known-verdict-2 c = search needs
 
 clearing-program-requires : tie.Need-clearing-program-requires
 clearing-program-requires c κs =
-    let entry = c .before .before .before .before .before .before .before .before .before in
+    let entry = c .before .before .before .before .before .before .before in
     let a = entry .args in
-    let go = sym (c .before .before .before .before .before .before .decide-clearing .ensures) ∙ c .before .before .before .before .verdict2 .given .1 in
+    let go = sym (c .before .before .before .before .decide-clearing .ensures) ∙ c .before .before .verdict2 .given .1 in
     (clearing-able (a .store .now) (a .second) (a .tag) (a .more) (a .reading) (entry .pre) go, clearing-listed (a .store .now) (a .second) (a .tag) (a .more) go)
 
 same-length : tie.Need-same-length
@@ -43,10 +43,10 @@ same-length-2 c = search needs
 returns-2 : tie.Need-returns-2
 unfolding clearing
 returns-2 c =
-    let a = c .before .before .before .before .before .before .before .before .before .before .before .before .args in
+    let a = c .before .before .before .before .before .before .before .before .before .before .args in
     carried-out (clearTests (a .more) (a .store .now) (wordsRead (a .store .now)) (a .second) (a .tag)) (a .store .now)
     (λ x. clearingProgram (a .more) (x .settings) (x .cursor) (a .second) (a .tag) (a .reading))
-    (sym (c .before .before .before .before .before .before .before .before .before .decide-clearing .ensures) ∙ c .before .before .before .before .before .before .before .verdict2 .given .1)
+    (sym (c .before .before .before .before .before .before .before .decide-clearing .ensures) ∙ c .before .before .before .before .before .verdict2 .given .1)
     (c .before .before .clearing-program .ensures)
 
 pub clearing-spec : {M : Type 1} → statement M

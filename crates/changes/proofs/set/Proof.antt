@@ -20,9 +20,9 @@ enum-known-verdict-2 c = search needs
 
 set-program-requires : tie.Need-set-program-requires
 set-program-requires c κs =
-    let a = c .before .before .before .before .before .before .before .before .before .args in
+    let a = c .before .before .before .before .before .before .before .args in
     set-able (a .store .now) (a .second) (a .tag) (a .reading)
-    (sym (c .before .before .before .before .before .before .decide-set .ensures) ∙ c .before .before .before .before .verdict2 .given .1)
+    (sym (c .before .before .before .before .decide-set .ensures) ∙ c .before .before .verdict2 .given .1)
 
 same-length : tie.Need-same-length
 same-length c = search needs
@@ -41,10 +41,10 @@ same-length-2 c = search needs
 returns-2 : tie.Need-returns-2
 unfolding set
 returns-2 c =
-    let a = c .before .before .before .before .before .before .before .before .before .before .before .before .args in
+    let a = c .before .before .before .before .before .before .before .before .before .before .args in
     carried-out (setTests (a .store .now) (wordsRead (a .store .now)) (a .second) (a .tag)) (a .store .now)
     (λ x. setProgram (x .settings) (x .cursor) (a .second) (a .tag) (a .reading))
-    (sym (c .before .before .before .before .before .before .before .before .before .decide-set .ensures) ∙ c .before .before .before .before .before .before .before .verdict2 .given .1)
+    (sym (c .before .before .before .before .before .before .before .decide-set .ensures) ∙ c .before .before .before .before .before .verdict2 .given .1)
     (c .before .before .set-program .ensures)
 
 pub set-spec : {M : Type 1} → statement M

@@ -1,14 +1,8 @@
 -- `start` meets its contract: turned away it leaves all words, else the layout filled with zeros and the head.
-use mathlib.Core.Path.{sym, ap, _∙_, subst⁻¹}
-use Prim.Native.Nat.{_≤_}
+use mathlib.Core.Path.{sym, ap, _∙_}
 use native.Mathlib.Omega.{arith}
-use lib.ListN.{length}
 use borrow.Author.Needs.{needs}
-use Rattle.layout.specs.declared.settings.Settings.{Settings}
-use Rattle.layout.specs.Sizes.{layoutLen}
-use Rattle.layout.specs.Settings.{Within}
 use Rattle.layout.specs.Head.{withHead}
-use Rattle.decisions.specs.Start.{settingsOf}
 use Rattle.decisions.specs.StartLaws.{go-start}
 use Rattle.changes.specs.ReplyLaws.{start-away, start-done}
 use Rattle.changes.proofs.start.Statement.{statement}
@@ -23,16 +17,19 @@ enum-known-verdict c = search needs
 enum-known-verdict-2 : tie.Need-enum-known-verdict-2
 enum-known-verdict-2 c = search needs
 
+fresh-requires : tie.Need-fresh-requires
+fresh-requires c κs = search needs
+
 clear-layout-requires : tie.Need-clear-layout-requires
 clear-layout-requires c κs =
-    let a = c .before .before .before .before .before .before .before .args in
-    let g = go-start (a .store .now) (settingsOf (a .block) (a .useful) (a .blocks) (a .tags)) (sym (c .before .before .before .before .decide-start .ensures) ∙ c .before .before .verdict2 .given .1) in
+    let a = c .before .before .before .before .before .before .before .before .args in
+    let g = go-start (a .store .now) (a .asked) (sym (c .before .before .before .before .before .decide-start .ensures) ∙ c .before .before .before .verdict2 .given .1) in
     rw (g .0) (g .1 .within, g .1 .long)
 
 write-head-requires : tie.Need-write-head-requires
 write-head-requires c κs =
-    let a = c .before .before .before .before .before .before .before .before .before .before .before .args in
-    let g = go-start (a .store .now) (settingsOf (a .block) (a .useful) (a .blocks) (a .tags)) (sym (c .before .before .before .before .before .before .before .before .decide-start .ensures) ∙ c .before .before .before .before .before .before .verdict2 .given .1) in
+    let a = c .before .before .before .before .before .before .before .before .before .before .before .before .args in
+    let g = go-start (a .store .now) (a .asked) (sym (c .before .before .before .before .before .before .before .before .before .decide-start .ensures) ∙ c .before .before .before .before .before .before .before .verdict2 .given .1) in
     omega (arith, g .1 .head)
 
 same-length : tie.Need-same-length
@@ -41,18 +38,19 @@ same-length c = search needs
 returns : tie.Need-returns
 returns c =
     let a = c .before .before .before .before .before .before .args in
-    start-away (a .store .now) (settingsOf (a .block) (a .useful) (a .blocks) (a .tags)) (sym (c .before .before .before .decide-start .ensures) ∙ c .before .verdict .given .1)
+    start-away (a .store .now) (a .asked) (sym (c .before .before .before .decide-start .ensures) ∙ c .before .verdict .given .1)
 
 same-length-2 : tie.Need-same-length-2
 same-length-2 c = search needs
 
 returns-2 : tie.Need-returns-2
 returns-2 c =
-    let a = c .before .before .before .before .before .before .before .before .before .before .before .before .before .before .args in
-    start-done (a .store .now) (settingsOf (a .block) (a .useful) (a .blocks) (a .tags)) (sym (c .before .before .before .before .before .before .before .before .before .before .before .decide-start .ensures) ∙ c .before .before .before .before .before .before .before .before .before .verdict2 .given .1)
+    let a = c .before .before .before .before .before .before .before .before .before .before .before .before .before .before .before .args in
+    start-done (a .store .now) (a .asked) (sym (c .before .before .before .before .before .before .before .before .before .before .before .before .decide-start .ensures) ∙ c .before .before .before .before .before .before .before .before .before .before .verdict2 .given .1)
+    (c .before .before .before .before .before .before .before .before .fresh .ensures)
     (c .before .before .write-head .ensures ∙ ap (withHead _) (c .before .before .before .before .before .before .clear-layout .ensures))
 
 pub start-spec : {M : Type 1} → statement M
 start-spec =
     tie.close
-    (tie.spec decide-start-requires enum-known-verdict enum-known-verdict-2 clear-layout-requires write-head-requires same-length returns same-length-2 returns-2)
+    (tie.spec decide-start-requires enum-known-verdict enum-known-verdict-2 fresh-requires clear-layout-requires write-head-requires same-length returns same-length-2 returns-2)

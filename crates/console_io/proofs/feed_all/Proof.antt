@@ -1,28 +1,28 @@
 -- `feed_all` meets its contract: the bytes are fed in order, until the run is over. It ends: they are counted.
-use mathlib.Core.Path.{refl, sym, _∙_}
+use mathlib.Core.Path.{sym, _∙_}
 use Prim.Native.Nat.{_-_}
 use lib.ListN.{length}
-use Rattle.console_run.specs.Feed.{state}
-use Rattle.console_run.specs.FeedLaws.{FedTo, fed-none, fed-over, fed-whole, fed-next}
+use Rattle.console_io.specs.Session.{running}
+use Rattle.console_io.specs.SessionLaws.{FedTo, to-none, to-over, to-whole, to-next}
 use borrow.Author.Needs.{needs}
 use Rattle.console_io.proofs.feed_all.Statement.{statement}
 use Rattle.console_io.proofs.feed_all.Tie as tie
 
 abbrev Inv-loop : tie.InvT-loop
 Inv-loop bytes line₀ store₀ rows₀ list₀ next₀ i₀ line store rows list next i =
-    FedTo (state (next₀ .console) line₀ store₀ rows₀ list₀) bytes i (state (next .console) line store rows list)
+    FedTo (running next₀ line₀ store₀ rows₀ list₀) bytes i (running next line store rows list)
 
 abbrev μ-loop : tie.MeasureT-loop
 μ-loop bytes line₀ store₀ rows₀ list₀ next₀ i₀ line store rows list next i = length bytes - i
 
 loop-holds : tie.Need-loop-holds Inv-loop μ-loop
-loop-holds c = fed-none _ _
+loop-holds c = to-none _ _
 
 is-over-requires : tie.Need-is-over-requires Inv-loop μ-loop
 is-over-requires c κs = search needs
 
 returns : tie.Need-returns Inv-loop μ-loop
-returns c = fed-over (c .before .before .before .before .loop .inv) (sym (c .before .is-over .ensures) ∙ c .if1 .taken)
+returns c = to-over (c .before .before .before .before .loop .inv) (sym (c .before .is-over .ensures) ∙ c .if1 .taken)
 
 shared-slice-read-feed-one : tie.Need-shared-slice-read-feed-one Inv-loop μ-loop
 shared-slice-read-feed-one c = search needs
@@ -40,11 +40,11 @@ loop-again : tie.Need-loop-again Inv-loop μ-loop
 loop-again c =
     let at-is-over = c .before .before .before .before .before .before .before in
     let at-loop-test = at-is-over .before .before in
-    fed-next (at-loop-test .before .loop .inv) (at-loop-test .loop-test .taken)
-    (sym (at-is-over .is-over .ensures) ∙ c .before .before .before .before .before .before .if1 .left) refl (c .feed-one .ensures)
+    to-next (at-loop-test .before .loop .inv) (at-loop-test .loop-test .taken)
+    (sym (at-is-over .is-over .ensures) ∙ c .before .before .before .before .before .before .if1 .left) (c .feed-one .ensures)
 
 returns-2 : tie.Need-returns-2 Inv-loop μ-loop
-returns-2 c = fed-whole (c .before .loop .inv) (c .loop-test .left)
+returns-2 c = to-whole (c .before .loop .inv) (c .loop-test .left)
 
 pub feed-all-spec : {M : Type 1} → statement M
 feed-all-spec =

@@ -1,5 +1,5 @@
--- `feed_one` meets its contract: the step of one byte; printing changes nothing of it.
-use Rattle.console_run.specs.FeedLaws.{byte-fed}
+-- `feed_one` meets its contract: the step of one byte, and its lines are handed on.
+use Rattle.console_io.specs.SessionLaws.{byte-fed}
 use borrow.Author.Needs.{needs}
 use Rattle.console_io.proofs.feed_one.Statement.{statement}
 use Rattle.console_io.proofs.feed_one.Tie as tie
@@ -11,7 +11,7 @@ print-said-requires : tie.Need-print-said-requires
 print-said-requires c κs = search needs
 
 returns : tie.Need-returns
-returns c = byte-fed (c .before .before .before .before .feed .ensures)
+returns c = byte-fed (c .before .before .before .before .feed .ensures) (c .print-said .ensures)
 
 pub feed-one-spec : {M : Type 1} → statement M
 feed-one-spec = tie.close (tie.spec feed-requires print-said-requires returns)

@@ -1,11 +1,13 @@
--- `print_said` is safe and ends: the lines are counted.
+-- `print_said` meets its contract: the lines are handed on in order. It ends: they are counted.
 use Prim.Native.Nat.{_-_}
 use borrow.Author.Needs.{needs}
+use Rattle.console_run.specs.Console.{saidLines}
+use Rattle.console_io.specs.SinkLaws.{SentTo, sent-none, said-next, said-whole}
 use Rattle.console_io.proofs.print_said.Statement.{statement}
 use Rattle.console_io.proofs.print_said.Tie as tie
 
 abbrev Inv-loop : tie.InvT-loop
-Inv-loop said number rows count next₀ i₀ next i = Unit {0}
+Inv-loop said number rows count next₀ i₀ next i = SentTo next₀ (saidLines said number rows) i next
 
 abbrev μ-loop : tie.MeasureT-loop
 μ-loop said number rows count next₀ i₀ next i = count - i
@@ -14,7 +16,7 @@ line-count-requires : tie.Need-line-count-requires Inv-loop μ-loop
 line-count-requires c κs = search needs
 
 loop-holds : tie.Need-loop-holds Inv-loop μ-loop
-loop-holds c = search needs
+loop-holds c = sent-none _ _
 
 print-one-requires : tie.Need-print-one-requires Inv-loop μ-loop
 print-one-requires c κs = search needs
@@ -26,10 +28,10 @@ loop-less : tie.Need-loop-less Inv-loop μ-loop
 loop-less c = search needs
 
 loop-again : tie.Need-loop-again Inv-loop μ-loop
-loop-again c = search needs
+loop-again c = said-next _ _ _ (c .before .before .before .line-count .ensures) (c .before .before .loop .inv) (c .before .loop-test .taken) (c .print-one .ensures)
 
 returns : tie.Need-returns Inv-loop μ-loop
-returns c = search needs
+returns c = said-whole _ _ _ (c .before .before .line-count .ensures) (c .before .loop .inv) (c .loop-test .left)
 
 pub print-said-spec : {M : Type 1} → statement M
 print-said-spec =

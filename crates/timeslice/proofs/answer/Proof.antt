@@ -13,11 +13,11 @@ enum-known-slice c = search needs
 enum-told : tie.Need-enum-told
 enum-told c = search needs
 
-zero-requires : tie.Need-zero-requires
-zero-requires c κs = search needs
+zero-all-requires : tie.Need-zero-all-requires
+zero-all-requires c κs = search needs
 
-zero-requires-2 : tie.Need-zero-requires-2
-zero-requires-2 c κs = search needs
+zero-all-requires-2 : tie.Need-zero-all-requires-2
+zero-all-requires-2 c κs = search needs
 
 same-length : tie.Need-same-length
 same-length c = search needs
@@ -41,7 +41,7 @@ returns-2 c =
     let at-enum-told = at-zero .before .before in
     let at-look = at-enum-told .before .before .before .before .before .before in
     answer-broken (at-look .look .ensures) (at-enum-told .enum-told .given .1) (at-look .look .kept .1 .1 .1 .0)
-    (at-look .look .kept .1 .1 .1 .1 .0) (at-zero .zero .ensures) (at-zero2 .zero2 .ensures)
+    (at-look .look .kept .1 .1 .1 .1 .0) (at-zero .zero-all .ensures) (at-zero2 .zero-all2 .ensures)
 
 pub answer-spec : {M : Type 1} → statement M
 answer-spec =
@@ -50,8 +50,8 @@ answer-spec =
     look-requires
     enum-known-slice
     enum-told
-    zero-requires
-    zero-requires-2
+    zero-all-requires
+    zero-all-requires-2
     same-length
     same-length-2
     returns

@@ -1,5 +1,5 @@
 -- `look` meets its contract: what search and path come to is the walk's answer.
-use Rattle.timeslice.specs.AnswerLaws.{sees-nowhere, path-reach, sees-unsound, sees-whole}
+use Rattle.timeslice.specs.AnswerLaws.{slices-nowhere, path-reach, slices-unsound, slices-whole}
 use borrow.Author.Needs.{needs}
 use Rattle.timeslice.proofs.look.Statement.{statement}
 use Rattle.timeslice.proofs.look.Tie as tie
@@ -14,7 +14,7 @@ enum-told : tie.Need-enum-told
 enum-told c = search needs
 
 returns : tie.Need-returns
-returns c = sees-nowhere (c .before .before .before .before .before .before .pre .0) _ (c .before .before .search .ensures) _ _ (c .enum-told .given .1)
+returns c = slices-nowhere (c .before .before .before .before .before .before .pre .0) _ (c .before .before .search .ensures) _ _ (c .enum-told .given .1)
 
 path-requires : tie.Need-path-requires
 path-requires c κs =
@@ -41,7 +41,7 @@ returns-2 c =
     let at-found = at-path .before .before .before .before in
     let at-search = at-found .before .before in
     let start = at-search .before .before .before .before in
-    sees-unsound (start .pre .0) _ (at-search .search .ensures) _ _ (at-found .found .given .1) (at-path .path .ensures)
+    slices-unsound (start .pre .0) _ (at-search .search .ensures) _ _ (at-found .found .given .1) (at-path .path .ensures)
     (c .enum-told2 .given .1)
 
 same-length-3 : tie.Need-same-length-3
@@ -56,7 +56,7 @@ returns-3 c =
     let at-found = at-path .before .before .before .before in
     let at-search = at-found .before .before in
     let start = at-search .before .before .before .before in
-    sees-whole (start .pre .0) _ (at-search .search .ensures) _ _ (at-found .found .given .1) (at-path .path .ensures)
+    slices-whole (start .pre .0) _ (at-search .search .ensures) _ _ (at-found .found .given .1) (at-path .path .ensures)
     (start .pre .1) (c .before .counts .given .1)
 
 pub look-spec : {M : Type 1} → statement M

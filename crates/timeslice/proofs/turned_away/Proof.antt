@@ -1,6 +1,6 @@
 -- `turned_away` meets its contract: each test is one of the table's.
 use native.Mathlib.Omega.{arith}
-use Rattle.timeslice.specs.AnswerLaws.{own-short, own-open, own-late, own-rows, own-list, own-none}
+use Rattle.timeslice.specs.TurnedAwayLaws.{InTime, own-short, own-open, own-late, in-time, own-rows, own-list, own-none}
 use borrow.Author.Needs.{needs}
 use Rattle.timeslice.proofs.turned_away.Statement.{statement}
 use Rattle.timeslice.proofs.turned_away.Tie as tie
@@ -16,19 +16,27 @@ returns c =
 returns-2 : tie.Need-returns-2
 returns-2 c =
     let at-words = c .before .before in
-    let start = at-words .before in
-    let a = start .args in
+    let a = at-words .before .args in
     own-open (a .h) (a .words) (a .second) (a .rows) (a .list) (at-words .words .ensures) (c .before .if1 .left) (c .if2 .taken)
 
 returns-3 : tie.Need-returns-3
 returns-3 c =
     let at-if2 = c .before .before in
-    let at-if1 = at-if2 .before in
-    let at-words = at-if1 .before in
-    let start = at-words .before in
-    let a = start .args in
-    own-late (a .h) (a .words) (a .second) (a .rows) (a .list) (at-words .words .ensures) (at-if1 .if1 .left)
-    (at-if2 .if2 .left, omega arith) (c .if3 .taken)
+    let at-words = at-if2 .before .before in
+    let a = at-words .before .args in
+    own-late (a .h) (a .words) (a .second) (a .rows) (a .list) (at-words .words .ensures) (at-if2 .before .if1 .left) (at-if2 .if2 .left)
+    (omega arith) (c .if3 .taken)
+
+-- ---- the buffers, once the second is in time
+second-in-time : (c : tie.Else3)
+    → let a = c .before .before .before .before .before .args in
+    InTime (a .h) (a .words) (a .second)
+second-in-time c =
+    let at-if2 = c .before .before in
+    let at-words = at-if2 .before .before in
+    let a = at-words .before .args in
+    in-time (a .h) (a .words) (a .second) (a .rows) (a .list) (at-words .words .ensures) (at-if2 .before .if1 .left) (at-if2 .if2 .left)
+    (omega arith) (c .if3 .left)
 
 cast-if4 : tie.Need-cast-if4
 cast-if4 c = search needs
@@ -37,15 +45,7 @@ mul-if4 : tie.Need-mul-if4
 mul-if4 c = search needs
 
 returns-4 : tie.Need-returns-4
-returns-4 c =
-    let at-if3 = c .before .before in
-    let at-if2 = at-if3 .before .before in
-    let at-if1 = at-if2 .before in
-    let at-words = at-if1 .before in
-    let start = at-words .before in
-    let a = start .args in
-    own-rows (a .h) (a .words) (a .second) (a .rows) (a .list) (at-words .words .ensures) (at-if1 .if1 .left)
-    (at-if2 .if2 .left, omega arith) (at-if3 .if3 .left) (c .if4 .taken)
+returns-4 c = own-rows _ _ _ _ _ (second-in-time (c .before .before)) (c .if4 .taken)
 
 cast-if5 : tie.Need-cast-if5
 cast-if5 c = search needs
@@ -53,26 +53,12 @@ cast-if5 c = search needs
 returns-5 : tie.Need-returns-5
 returns-5 c =
     let at-if4 = c .before .before in
-    let at-if3 = at-if4 .before .before in
-    let at-if2 = at-if3 .before .before in
-    let at-if1 = at-if2 .before in
-    let at-words = at-if1 .before in
-    let start = at-words .before in
-    let a = start .args in
-    own-list (a .h) (a .words) (a .second) (a .rows) (a .list) (at-words .words .ensures) (at-if1 .if1 .left)
-    (at-if2 .if2 .left, omega arith) (at-if3 .if3 .left) (at-if4 .if4 .left) (c .if5 .taken)
+    own-list _ _ _ _ _ (second-in-time (at-if4 .before .before)) (at-if4 .if4 .left) (c .if5 .taken)
 
 returns-6 : tie.Need-returns-6
 returns-6 c =
     let at-if4 = c .before .before in
-    let at-if3 = at-if4 .before .before in
-    let at-if2 = at-if3 .before .before in
-    let at-if1 = at-if2 .before in
-    let at-words = at-if1 .before in
-    let start = at-words .before in
-    let a = start .args in
-    own-none (a .h) (a .words) (a .second) (a .rows) (a .list) (at-words .words .ensures) (at-if1 .if1 .left)
-    (at-if2 .if2 .left, omega arith) (at-if3 .if3 .left) (at-if4 .if4 .left) (c .if5 .left)
+    own-none _ _ _ _ _ (second-in-time (at-if4 .before .before)) (at-if4 .if4 .left) (c .if5 .left)
 
 pub turned-away-spec : {M : Type 1} → statement M
 turned-away-spec =

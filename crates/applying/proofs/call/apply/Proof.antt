@@ -63,31 +63,31 @@ same-length : tie.Need-same-length
 same-length c = search needs
 
 returns : tie.Need-returns
-returns c = changed-applied _ (c .before .before .before .before .before .before .call .given .1) (λ x y. refl) (c .before .before .before .start .ensures) (c .changed .ensures)
+returns c = changed-applied _ (c .before .before .before .before .before .before .call .given .1) (λ l. refl) (c .before .before .before .start .ensures) (c .changed .ensures)
 
 same-length-2 : tie.Need-same-length-2
 same-length-2 c = search needs
 
 returns-2 : tie.Need-returns-2
-returns-2 c = changed-applied _ (c .before .before .before .before .before .before .call2 .given .1) (λ x y. refl) (c .before .before .before .set .ensures) (c .changed2 .ensures)
+returns-2 c = changed-applied _ (c .before .before .before .before .before .before .call2 .given .1) (λ l. refl) (c .before .before .before .set .ensures) (c .changed2 .ensures)
 
 same-length-3 : tie.Need-same-length-3
 same-length-3 c = search needs
 
 returns-3 : tie.Need-returns-3
-returns-3 c = changed-applied _ (c .before .before .before .before .before .before .call3 .given .1) (λ x y. refl) (c .before .before .before .clear .ensures) (c .changed3 .ensures)
+returns-3 c = changed-applied _ (c .before .before .before .before .before .before .call3 .given .1) (λ l. refl) (c .before .before .before .clear .ensures) (c .changed3 .ensures)
 
 same-length-4 : tie.Need-same-length-4
 same-length-4 c = search needs
 
 returns-4 : tie.Need-returns-4
-returns-4 c = changed-applied _ (c .before .before .before .before .before .before .call4 .given .1) (λ x y. refl) (c .before .before .before .update .ensures) (c .changed4 .ensures)
+returns-4 c = changed-applied _ (c .before .before .before .before .before .before .call4 .given .1) (λ l. refl) (c .before .before .before .update .ensures) (c .changed4 .ensures)
 
 same-length-5 : tie.Need-same-length-5
 same-length-5 c = search needs
 
 returns-5 : tie.Need-returns-5
-returns-5 c = changed-applied _ (c .before .before .before .before .before .before .call5 .given .1) (λ x y. refl) (c .before .before .before .advance .ensures) (c .changed5 .ensures)
+returns-5 c = changed-applied _ (c .before .before .before .before .before .before .call5 .given .1) (λ l. refl) (c .before .before .before .advance .ensures) (c .changed5 .ensures)
 
 same-length-6 : tie.Need-same-length-6
 same-length-6 c = search needs

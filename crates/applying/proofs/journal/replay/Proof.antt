@@ -20,8 +20,8 @@ loop-holds c = going _ _
 sub-loop : tie.Need-sub-loop Inv-loop μ-loop
 sub-loop c = search needs
 
-enter-at-requires : tie.Need-enter-at-requires Inv-loop μ-loop
-enter-at-requires c κs = search needs
+play-at-requires : tie.Need-play-at-requires Inv-loop μ-loop
+play-at-requires c κs = search needs
 
 enum-known-one : tie.Need-enum-known-one Inv-loop μ-loop
 enum-known-one c = search needs
@@ -34,11 +34,11 @@ same-length c = search needs
 
 returns : tie.Need-returns Inv-loop μ-loop
 returns c =
-    let r = at-other (c .before .before .before .before .before .before .before .loop .inv) (c .before .before .before .before .before .before .loop-test .taken) (c .before .before .before .before .enter-at .ensures) (c .enum-told .given .1) in (r, rebuilt (r .store))
+    let r = at-other (c .before .before .before .before .before .before .before .loop .inv) (c .before .before .before .before .before .before .loop-test .taken) (c .before .before .before .before .play-at .ensures) (c .enum-told .given .1) in (r, rebuilt (r .store))
 
 add-accepted : tie.Need-add-accepted Inv-loop μ-loop
 add-accepted c =
-    let g = at-next (c .before .before .before .before .before .before .before .before .loop .inv) (c .before .before .before .before .before .before .before .loop-test .taken) (c .before .before .before .before .before .enter-at .ensures) (c .before .one .given .1) in
+    let g = at-next (c .before .before .before .before .before .before .before .before .loop .inv) (c .before .before .before .before .before .before .before .loop-test .taken) (c .before .before .before .before .before .play-at .ensures) (c .before .one .given .1) in
     omega (arith, g .few, g .place, g .within)
 
 add-entries : tie.Need-add-entries Inv-loop μ-loop
@@ -51,7 +51,7 @@ loop-less : tie.Need-loop-less Inv-loop μ-loop
 loop-less c = search needs
 
 loop-again : tie.Need-loop-again Inv-loop μ-loop
-loop-again c = at-next (c .before .before .before .before .before .before .before .before .loop .inv) (c .before .before .before .before .before .before .before .loop-test .taken) (c .before .before .before .before .before .enter-at .ensures) (c .before .one .given .1)
+loop-again c = at-next (c .before .before .before .before .before .before .before .before .loop .inv) (c .before .before .before .before .before .before .before .loop-test .taken) (c .before .before .before .before .before .play-at .ensures) (c .before .one .given .1)
 
 same-length-2 : tie.Need-same-length-2 Inv-loop μ-loop
 same-length-2 c = search needs
@@ -68,7 +68,7 @@ replay-spec =
     μ-loop
     loop-holds
     sub-loop
-    enter-at-requires
+    play-at-requires
     enum-known-one
     enum-told
     same-length

@@ -10,6 +10,9 @@ parse-settings-requires c κs = search needs
 enum-known-b : tie.Need-enum-known-b
 enum-known-b c = search needs
 
+asked-requires : tie.Need-asked-requires
+asked-requires c κs = search needs
+
 called-requires : tie.Need-called-requires
 called-requires c κs = search needs
 
@@ -29,10 +32,7 @@ same-length-3 : tie.Need-same-length-3
 same-length-3 c = search needs
 
 returns : tie.Need-returns
-returns c =
-    let at-called = c .before .before .before .before .before .before in
-    let at-b = at-called .before .before .before .before .before in
-    settings-values _ (at-b .before .before .parse-settings .ensures) (at-b .b .given .1) (at-called .called .ensures)
+returns c = settings-values _ (c .before .before .before .before .before .before .before .before .before .before .before .before .before .before .parse-settings .ensures) (c .before .before .before .before .before .before .before .before .before .before .before .before .b .given .1) (c .before .before .before .before .before .before .before .before .before .before .asked .ensures) (c .before .before .before .before .before .before .called .ensures)
 
 returns-2 : tie.Need-returns-2
 returns-2 c = settings-bad _ (c .before .before .before .parse-settings .ensures) (c .before .enum-told .given .1) (c .bad-at .ensures)
@@ -43,6 +43,7 @@ settings-spec =
     (tie.spec
     parse-settings-requires
     enum-known-b
+    asked-requires
     called-requires
     enum-told
     bad-at-requires

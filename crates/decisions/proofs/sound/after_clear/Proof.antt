@@ -8,8 +8,8 @@ use Rattle.decisions.specs.SoundLaws.{after-here, after-there}
 use Rattle.decisions.proofs.sound.after_clear.Statement.{statement}
 use Rattle.decisions.proofs.sound.after_clear.Tie as tie
 
-bits-of-requires : tie.Need-bits-of-requires
-bits-of-requires c κs = search needs
+standing-requires : tie.Need-standing-requires
+standing-requires c κs = search needs
 
 block-of-requires : tie.Need-block-of-requires
 block-of-requires c κs = search needs
@@ -27,14 +27,14 @@ returns c =
     let entry = c .before .before .before .before .before .before .before in
     c .without .ensures
     ∙ after-here (entry .args .h) (wordsOf (entry .args .h) (entry .args .store .now)) (entry .args .tag) (entry .pre .1 .0 .is)
-    (c .before .before .before .before .block-of .ensures) (c .before .slot-of .ensures) (c .before .before .before .before .before .bits-of .ensures)
+    (c .before .before .before .before .block-of .ensures) (c .before .slot-of .ensures) (c .before .before .before .before .before .standing .ensures)
     (c .before .before .if1 .taken)
 
 returns-2 : tie.Need-returns-2
 returns-2 c =
     let entry = c .before .before .before .before .before in
     after-there (entry .args .h) (wordsOf (entry .args .h) (entry .args .store .now)) (entry .args .tag) (entry .pre .1 .0 .is)
-    (c .before .before .block-of .ensures) refl (c .before .before .before .bits-of .ensures) (c .if1 .left)
+    (c .before .before .block-of .ensures) refl (c .before .before .before .standing .ensures) (c .if1 .left)
 
 pub after-clear-spec : {M : Type 1} → statement M
-after-clear-spec = tie.close (tie.spec bits-of-requires block-of-requires slot-of-requires without-requires returns returns-2)
+after-clear-spec = tie.close (tie.spec standing-requires block-of-requires slot-of-requires without-requires returns returns-2)

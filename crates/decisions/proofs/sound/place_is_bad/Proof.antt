@@ -35,12 +35,12 @@ returns-2 c =
     (c .before .before .slot-of .ensures) (c .before .before .before .before .before .placed .ensures) (c .before .read .ensures .value) refl
     (le-ltb _ _ (c .before .before .before .before .if1 .left)) (ne-eqb _ _ (c .if2 .taken)) refl)
 
-bits-of-requires : tie.Need-bits-of-requires
-bits-of-requires c κs =
+standing-requires : tie.Need-standing-requires
+standing-requires c κs =
     let entry = c .before .before .before .before .before .before .before in
     let i = in-place (entry .args .h) (entry .args .p) (entry .pre .0 .head .sound) (entry .pre .1 .some)
     (rw (← (c .before .before .before .before .before .placed .ensures)) (c .before .before .before .before .if1 .left)) in
-    (entry .pre .0, numbered-at i (c .before .before .before .block-of .ensures))
+    (numbered-at i (c .before .before .before .block-of .ensures), entry .pre .0 .held)
 
 has-requires : tie.Need-has-requires
 has-requires c κs =
@@ -54,9 +54,9 @@ returns-3 c =
     sym (bad-place _ _ _ (c .before .before .before .before .before .before .before .before .before .pre .1 .is)
     (c .before .before .before .before .before .block-of .ensures) (c .before .before .before .before .slot-of .ensures)
     (c .before .before .before .before .before .before .before .placed .ensures) (c .before .before .before .read .ensures .value)
-    (c .before .bits-of .ensures)
+    (c .before .standing .ensures)
     (le-ltb _ _ (c .before .before .before .before .before .before .if1 .left)) (eq-eqb _ _ (c .before .before .if2 .left)) (sym (c .has .ensures)))
 
 pub place-is-bad-spec : {M : Type 1} → statement M
 place-is-bad-spec =
-    tie.close (tie.spec placed-requires returns block-of-requires slot-of-requires read-requires returns-2 bits-of-requires has-requires returns-3)
+    tie.close (tie.spec placed-requires returns block-of-requires slot-of-requires read-requires returns-2 standing-requires has-requires returns-3)

@@ -17,11 +17,11 @@ Inv-loop store h n left₀ left = Looked (badSlot h (wordsOf h store) n) (bitsOf
 abbrev μ-loop : tie.MeasureT-loop
 μ-loop store h n left₀ left = length (slots left)
 
-bits-of-requires : tie.Need-bits-of-requires Inv-loop μ-loop
-bits-of-requires c κs = search needs
+standing-requires : tie.Need-standing-requires Inv-loop μ-loop
+standing-requires c κs = search needs
 
 loop-holds : tie.Need-loop-holds Inv-loop μ-loop
-loop-holds c = look-begin (omega arith) (omega arith) (c .bits-of .ensures)
+loop-holds c = look-begin (omega arith) (omega arith) (c .standing .ensures)
 
 is-empty-requires : tie.Need-is-empty-requires Inv-loop μ-loop
 is-empty-requires c κs = search needs
@@ -58,5 +58,5 @@ returns-2 c = look-none (c .before .before .loop .inv) (sym (c .before .is-empty
 
 pub slots-are-bad-spec : {M : Type 1} → statement M
 slots-are-bad-spec =
-    tie.close (tie.spec Inv-loop μ-loop bits-of-requires loop-holds is-empty-requires first-requires slot-is-bad-requires returns rest-requires
+    tie.close (tie.spec Inv-loop μ-loop standing-requires loop-holds is-empty-requires first-requires slot-is-bad-requires returns rest-requires
     loop-less loop-again returns-2)

@@ -23,13 +23,13 @@ returns : tie.Need-returns
 returns c =
     let entry = c .before .before .before .before .before .before in
     let no : First (startOwn (c .before .before .answer2 .given .0 .0) (entry .args .store .now)) 2 = hit (lt-ltb _ _ (c .if1 .taken)) in
-    store-refused (entry .args .block) (entry .args .useful) (entry .args .blocks) (entry .args .tags) (entry .args .store .now)
+    store-refused (entry .args .asked .block) (entry .args .asked .useful) (entry .args .asked .blocks) (entry .args .asked .tags) (entry .args .store .now)
     (sym (c .before .before .before .before .new .ensures) ∙ c .before .before .answer2 .given .1) no (λ z. omega arith)
 
 words-requires : tie.Need-words-requires
 words-requires c κs =
     let entry = c .before .before .before .before .before .before in
-    settings-within (entry .args .block) (entry .args .useful) (entry .args .blocks) (entry .args .tags)
+    settings-within (entry .args .asked .block) (entry .args .asked .useful) (entry .args .asked .blocks) (entry .args .asked .tags)
     (sym (c .before .before .before .before .new .ensures) ∙ c .before .before .answer2 .given .1)
 
 returns-2 : tie.Need-returns-2
@@ -38,14 +38,14 @@ returns-2 c =
     let no : First (startOwn (c .before .before .before .before .answer2 .given .0 .0) (entry .args .store .now)) 4 = miss
     (le-ltb _ _ (c .before .before .if1 .left))
     (hit (short-by (length (entry .args .store .now)) (c .before .words .ensures .is) (lt-ltb _ _ (c .if2 .taken)))) in
-    store-refused (entry .args .block) (entry .args .useful) (entry .args .blocks) (entry .args .tags) (entry .args .store .now)
+    store-refused (entry .args .asked .block) (entry .args .asked .useful) (entry .args .asked .blocks) (entry .args .asked .tags) (entry .args .store .now)
     (sym (c .before .before .before .before .before .before .new .ensures) ∙ c .before .before .before .before .answer2 .given .1) no
     (λ z. omega arith)
 
 returns-3 : tie.Need-returns-3
 returns-3 c =
     let entry = c .before .before .before .before .before in
-    settings-refused (entry .args .block) (entry .args .useful) (entry .args .blocks) (entry .args .tags) (entry .args .store .now)
+    settings-refused (entry .args .asked .block) (entry .args .asked .useful) (entry .args .asked .blocks) (entry .args .asked .tags) (entry .args .store .now)
     (sym (c .before .before .before .new .ensures) ∙ c .before .answer .given .1)
 
 returns-4 : tie.Need-returns-4
@@ -54,7 +54,7 @@ returns-4 c =
     let go : First (startOwn (c .before .before .before .before .answer2 .given .0 .0) (entry .args .store .now)) 0 = miss
     (le-ltb _ _ (c .before .before .if1 .left))
     (miss (short-by (length (entry .args .store .now)) (c .before .words .ensures .is) (le-ltb _ _ (c .if2 .left))) none) in
-    store-passed (entry .args .block) (entry .args .useful) (entry .args .blocks) (entry .args .tags) (entry .args .store .now)
+    store-passed (entry .args .asked .block) (entry .args .asked .useful) (entry .args .asked .blocks) (entry .args .asked .tags) (entry .args .store .now)
     (sym (c .before .before .before .before .before .before .new .ensures) ∙ c .before .before .before .before .answer2 .given .1) go
 
 pub decide-start-spec : {M : Type 1} → statement M

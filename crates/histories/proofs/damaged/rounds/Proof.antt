@@ -5,48 +5,18 @@ use borrow.Author.Needs.{needs}
 use Rattle.histories.proofs.damaged.rounds.Statement.{statement}
 use Rattle.histories.proofs.damaged.rounds.Tie as tie
 
-abbrev Inv-loop : tie.InvT-loop
-Inv-loop store₀ kept₀ spare log rows₀ list₀ tally₀ random₀ i₀ store kept rows list tally random i =
-    Unit {0}
-
-abbrev μ-loop : tie.MeasureT-loop
-μ-loop store₀ kept₀ spare log rows₀ list₀ tally₀ random₀ i₀ store kept rows list tally random i = 3 - i
-
-extent-requires : tie.Need-extent-requires Inv-loop μ-loop
-extent-requires c κs = search needs
-
-copy-requires : tie.Need-copy-requires Inv-loop μ-loop
-copy-requires c κs = search needs
-
-loop-holds : tie.Need-loop-holds Inv-loop μ-loop
-loop-holds c = search needs
-
-round-requires : tie.Need-round-requires Inv-loop μ-loop
-round-requires c κs = search needs
-
-add-i : tie.Need-add-i Inv-loop μ-loop
-add-i c = search needs
-
-loop-less : tie.Need-loop-less Inv-loop μ-loop
-loop-less c = search needs
-
-loop-again : tie.Need-loop-again Inv-loop μ-loop
-loop-again c = search needs
-
-returns : tie.Need-returns Inv-loop μ-loop
-returns c = search needs
-
 pub rounds-spec : {M : Type 1} → statement M
 rounds-spec =
     tie.close
     (tie.spec
-    Inv-loop
-    μ-loop
-    extent-requires
-    copy-requires
-    loop-holds
-    round-requires
-    add-i
-    loop-less
-    loop-again
-    returns)
+    (λ _ _ _ _ _ _ _. Unit {0})
+    (λ _ _ _ _ _ _ i. 33 - i)
+    (search needs)
+    (search needs)
+    (search needs)
+    (search needs)
+    (search needs)
+    (search needs)
+    (search needs)
+    (search needs)
+    (search needs))

@@ -8,17 +8,14 @@ use Rattle.layout.proofs.address.offset_of.Tie as tie
 enum-known-a : tie.Need-enum-known-a
 enum-known-a c = search needs
 
-cast-result : tie.Need-cast-result
-cast-result c = search needs
-
 enum-known-a-2 : tie.Need-enum-known-a-2
 enum-known-a-2 c = search needs
 
 level-start-requires : tie.Need-level-start-requires
 level-start-requires c κs = search needs
 
-cast-result-2 : tie.Need-cast-result-2
-cast-result-2 c = search needs
+cast-result : tie.Need-cast-result
+cast-result c = search needs
 
 add-result : tie.Need-add-result
 add-result c = search needs
@@ -26,8 +23,8 @@ add-result c = search needs
 enum-known-a-3 : tie.Need-enum-known-a-3
 enum-known-a-3 c = search needs
 
-cast-result-3 : tie.Need-cast-result-3
-cast-result-3 c = search needs
+cast-result-2 : tie.Need-cast-result-2
+cast-result-2 c = search needs
 
 add-result-2 : tie.Need-add-result-2
 add-result-2 c = search needs
@@ -38,8 +35,8 @@ enum-known-a-4 c = search needs
 block-start-requires : tie.Need-block-start-requires
 block-start-requires c κs = let g = c .before .before .before in (valid-as (g .args .s) (c .before .a4 .given .1) (g .pre .0) .0, g .pre .1)
 
-cast-result-4 : tie.Need-cast-result-4
-cast-result-4 c = search needs
+cast-result-3 : tie.Need-cast-result-3
+cast-result-3 c = search needs
 
 add-result-3 : tie.Need-add-result-3
 add-result-3 c = search needs
@@ -50,8 +47,8 @@ enum-known-a-5 c = search needs
 block-start-requires-2 : tie.Need-block-start-requires-2
 block-start-requires-2 c κs = let g = c .before .before .before in (valid-as (g .args .s) (c .before .a5 .given .1) (g .pre .0) .0, g .pre .1)
 
-cast-result-5 : tie.Need-cast-result-5
-cast-result-5 c = search needs
+cast-result-4 : tie.Need-cast-result-4
+cast-result-4 c = search needs
 
 add-result-4 : tie.Need-add-result-4
 add-result-4 c = search needs
@@ -65,14 +62,14 @@ enum-known-a-6 c = search needs
 block-start-requires-3 : tie.Need-block-start-requires-3
 block-start-requires-3 c κs = let g = c .before .before .before in (valid-as (g .args .s) (c .before .a6 .given .1) (g .pre .0) .0, g .pre .1)
 
-cast-result-6 : tie.Need-cast-result-6
-cast-result-6 c = search needs
+cast-result-5 : tie.Need-cast-result-5
+cast-result-5 c = search needs
 
 mul-result : tie.Need-mul-result
 mul-result c = search needs
 
-cast-result-7 : tie.Need-cast-result-7
-cast-result-7 c = search needs
+cast-result-6 : tie.Need-cast-result-6
+cast-result-6 c = search needs
 
 add-result-6 : tie.Need-add-result-6
 add-result-6 c = search needs
@@ -106,28 +103,27 @@ offset-of-spec =
     tie.close
     (tie.spec
     enum-known-a
-    cast-result
     enum-known-a-2
     level-start-requires
-    cast-result-2
+    cast-result
     add-result
     enum-known-a-3
-    cast-result-3
+    cast-result-2
     add-result-2
     enum-known-a-4
     block-start-requires
-    cast-result-4
+    cast-result-3
     add-result-3
     enum-known-a-5
     block-start-requires-2
-    cast-result-5
+    cast-result-4
     add-result-4
     add-result-5
     enum-known-a-6
     block-start-requires-3
-    cast-result-6
+    cast-result-5
     mul-result
-    cast-result-7
+    cast-result-6
     add-result-6
     add-result-7
     add-result-8

@@ -4,6 +4,9 @@ use Rattle.layout.specs.PartsLaws.{as-page}
 use Rattle.layout.proofs.parts.page.Statement.{statement}
 use Rattle.layout.proofs.parts.page.Tie as tie
 
+cast-len : tie.Need-cast-len
+cast-len c = search needs
+
 mul-start : tie.Need-mul-start
 mul-start c = search needs
 
@@ -14,4 +17,4 @@ returns : tie.Need-returns
 returns c = as-page (c .before .before .args .e) (c .part .ensures)
 
 pub page-spec : {M : Type 1} → statement M
-page-spec = tie.close (tie.spec mul-start part-requires returns)
+page-spec = tie.close (tie.spec cast-len mul-start part-requires returns)

@@ -1,9 +1,9 @@
 -- `changes::clear_tag` meets its contract: one step after the other, on the block and slot of the place that was read.
-use mathlib.Core.Path.{sym, _∙_}
+use mathlib.Core.Path.{refl, sym, _∙_}
 use borrow.Author.Needs.{needs}
 use borrow.Author.Tests.{eq-eqb, ne-eqb}
 use Rattle.layout.specs.Able.{able-first, able-next, able-passed}
-use Rattle.layout.specs.Ran.{then, done, taken, passed}
+use Rattle.layout.specs.Moved.{stays, after, if-taken, if-passed}
 use Rattle.calls.specs.Placing.{clearTag}
 use Rattle.placing.proofs.AbleLaws.{reads, writes, listed-place}
 use Rattle.placing.proofs.changes.clear_tag.Statement.{statement}
@@ -11,21 +11,21 @@ use Rattle.placing.proofs.changes.clear_tag.Tie as tie
 
 read-requires : tie.Need-read-requires
 unfolding clearTag
-read-requires c κs = reads _ (c .before .before .pre .0)
+read-requires c κs = reads _ (c .before .before .before .pre .0)
 
 block-of-requires : tie.Need-block-of-requires
 block-of-requires c κs =
     let entry = c .before .before .before in
-    (entry .pre .0 .within, listed-place (entry .pre .1) (c .read .ensures))
+    (entry .before .pre .0 .within, listed-place (entry .before .pre .1) (c .read .ensures))
 
 slot-of-requires : tie.Need-slot-of-requires
 slot-of-requires c κs =
     let entry = c .before .before .before .before in
-    (entry .pre .0 .within, listed-place (entry .pre .1) (c .before .read .ensures))
+    (entry .before .pre .0 .within, listed-place (entry .before .pre .1) (c .before .read .ensures))
 
 end-record-requires : tie.Need-end-record-requires
 unfolding clearTag
-end-record-requires c κs = rw (c .before .before .block-of .ensures, c .before .slot-of .ensures) (able-first (able-next (c .before .before .before .before .before .before .pre .0) (c .before .before .before .read .ensures)))
+end-record-requires c κs = rw (c .before .before .block-of .ensures, c .before .slot-of .ensures) (able-first (able-next (c .before .before .before .before .before .before .before .pre .0) (c .before .before .before .read .ensures)))
 
 write-requires : tie.Need-write-requires
 unfolding clearTag
@@ -35,7 +35,7 @@ write-requires c κs =
     let d = f .before in
     let b = d .before in
     let a = b .before .before .before in
-    writes _ (able-next (able-next (a .pre .0) (b .read .ensures)) (rw (d .block-of .ensures, f .slot-of .ensures) at (g .end-record .ensures)))
+    writes _ (able-next (able-next (a .before .pre .0) (b .read .ensures)) (rw (d .block-of .ensures, f .slot-of .ensures) at (g .end-record .ensures)))
 
 same-length : tie.Need-same-length
 same-length c = search needs
@@ -48,7 +48,7 @@ returns c =
     let d = f .before .before in
     let b = d .before in
     let a = b .before in
-    then (a .read .ensures) (then (rw (b .block-of .ensures, d .slot-of .ensures) at (f .end-record .ensures)) (then (g .write .ensures) (taken (eq-eqb _ _ (sym (b .block-of .ensures) ∙ c .if1 .taken)) (done (g .write .ensures .good)))))
+    after (a .read .ensures) (after (rw (b .block-of .ensures, d .slot-of .ensures) at (f .end-record .ensures)) (after (g .write .ensures) (if-taken (eq-eqb _ _ (sym (b .block-of .ensures) ∙ c .if1 .taken)) (stays refl (g .write .ensures .good)))))
 
 judge-requires : tie.Need-judge-requires
 unfolding clearTag
@@ -60,7 +60,7 @@ judge-requires c κs =
     let d = f .before in
     let b = d .before in
     let a = b .before .before .before in
-    rw (d .block-of .ensures) (able-passed (ne-eqb _ _ (λ e. i .if1 .left (d .block-of .ensures ∙ e))) (able-next (able-next (able-next (a .pre .0) (b .read .ensures)) (rw (d .block-of .ensures, f .slot-of .ensures) at (g .end-record .ensures))) (h .write .ensures)))
+    rw (d .block-of .ensures) (able-passed (ne-eqb _ _ (λ e. i .if1 .left (d .block-of .ensures ∙ e))) (able-next (able-next (able-next (a .before .pre .0) (b .read .ensures)) (rw (d .block-of .ensures, f .slot-of .ensures) at (g .end-record .ensures))) (h .write .ensures)))
 
 same-length-2 : tie.Need-same-length-2
 same-length-2 c = search needs
@@ -75,7 +75,7 @@ returns-2 c =
     let d = f .before .before in
     let b = d .before in
     let a = b .before in
-    then (a .read .ensures) (then (rw (b .block-of .ensures, d .slot-of .ensures) at (f .end-record .ensures)) (then (g .write .ensures) (passed (ne-eqb _ _ (λ e. h .if1 .left (b .block-of .ensures ∙ e))) (rw (b .block-of .ensures) at (i .judge .ensures)))))
+    after (a .read .ensures) (after (rw (b .block-of .ensures, d .slot-of .ensures) at (f .end-record .ensures)) (after (g .write .ensures) (if-passed (ne-eqb _ _ (λ e. h .if1 .left (b .block-of .ensures ∙ e))) (rw (b .block-of .ensures) at (i .judge .ensures)))))
 
 pub clear-tag-spec : {M : Type 1} → statement M
 clear-tag-spec =

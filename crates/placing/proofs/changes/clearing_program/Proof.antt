@@ -3,7 +3,7 @@ use borrow.Author.Needs.{needs}
 use borrow.Author.Tests.{eq-eqb, ne-eqb}
 use Rattle.base.specs.Branch.{is?}
 use Rattle.layout.specs.Able.{able-first, able-next, able-taken, able-passed}
-use Rattle.layout.specs.Ran.{then, taken, passed}
+use Rattle.layout.specs.Moved.{onto, if-taken, if-passed}
 use Rattle.calls.specs.Placing.{clearProgram, updateProgram}
 use Rattle.placing.proofs.changes.clearing_program.Statement.{statement}
 use Rattle.placing.proofs.changes.clearing_program.Tie as tie
@@ -21,26 +21,35 @@ clear-tag-requires c κs =
 finish-requires : tie.Need-finish-requires
 unfolding clearProgram
 finish-requires c κs =
-    able-next (able-taken (eq-eqb _ _ (c .before .if1 .taken)) (c .before .before .before .before .before .before .before .pre .0)) (c .before .before .before .before .clear-tag .ensures)
+    let m = c .before .before .before .before .clear-tag .ensures in
+    let entry = c .before .before .before .before .before .before .before in
+    rw (m .settings) (able-next (able-taken (eq-eqb _ _ (c .before .if1 .taken)) (entry .pre .0)) (m .ran))
 
 same-length : tie.Need-same-length
 same-length c = search needs
 
 returns : tie.Need-returns
 unfolding clearProgram
-returns c = taken (eq-eqb _ _ (c .before .before .before .before .if1 .taken)) (then (c .before .before .before .before .before .before .before .clear-tag .ensures) (c .before .before .finish .ensures))
+returns c =
+    let m = c .before .before .before .before .before .before .before .clear-tag .ensures in
+    if-taken (eq-eqb _ _ (c .before .before .before .before .if1 .taken)) (onto m (rw (m .settings) at (c .before .before .finish .ensures)))
 
 place-requires : tie.Need-place-requires
 unfolding updateProgram
 place-requires c κs =
-    able-first (able-next (able-passed (ne-eqb _ _ (c .before .if1 .left)) (c .before .before .before .before .before .before .before .pre .0)) (c .before .before .before .before .clear-tag .ensures))
+    let m = c .before .before .before .before .clear-tag .ensures in
+    let entry = c .before .before .before .before .before .before .before in
+    rw (m .settings) (able-first (able-next (able-passed (ne-eqb _ _ (c .before .if1 .left)) (entry .pre .0)) (m .ran)))
 
 finish-requires-2 : tie.Need-finish-requires-2
 unfolding updateProgram
 finish-requires-2 c κs =
     let cleared = c .before .before .before .before .before .before .before .before in
-    able-next (able-next (able-passed (ne-eqb _ _ (c .before .before .before .before .before .if1 .left)) (cleared .before .before .before .pre .0)) (cleared .clear-tag .ensures))
-    (c .before .before .before .place .ensures)
+    let m = cleared .clear-tag .ensures in
+    let n = c .before .before .before .place .ensures in
+    let entry = cleared .before .before .before in
+    let a = able-passed (ne-eqb _ _ (c .before .before .before .before .before .if1 .left)) (entry .pre .0) in
+    rw (n .settings, m .settings) (able-next (able-next a (m .ran)) (rw (m .settings) at (n .ran)))
 
 same-length-2 : tie.Need-same-length-2
 same-length-2 c = search needs
@@ -49,8 +58,10 @@ returns-2 : tie.Need-returns-2
 unfolding updateProgram
 returns-2 c =
     let cleared = c .before .before .before .before .before .before .before .before .before .before .before in
-    passed (ne-eqb _ _ (c .before .before .before .before .before .before .before .before .if1 .left))
-    (then (cleared .clear-tag .ensures) (then (c .before .before .before .before .before .before .place .ensures) (c .before .before .finish2 .ensures)))
+    let m = cleared .clear-tag .ensures in
+    let n = c .before .before .before .before .before .before .place .ensures in
+    if-passed (ne-eqb _ _ (c .before .before .before .before .before .before .before .before .if1 .left))
+    (onto m (onto (rw (m .settings) at n) (rw (n .settings, m .settings) at (c .before .before .finish2 .ensures))))
 
 pub clearing-program-spec : {M : Type 1} → statement M
 clearing-program-spec =

@@ -1,6 +1,7 @@
--- `changes::finish` meets its contract: the cursor is stored and handed back.
+-- `changes::finish` meets its contract: the next head is stored and handed back.
 use borrow.Author.Needs.{needs}
-use Rattle.layout.specs.Ran.{then, done}
+use Rattle.layout.specs.Able.{able-held}
+use Rattle.layout.specs.Moved.{moves, after}
 use Rattle.calls.specs.Placing.{finish}
 use Rattle.placing.proofs.changes.finish.Statement.{statement}
 use Rattle.placing.proofs.changes.finish.Tie as tie
@@ -9,14 +10,17 @@ at-requires : tie.Need-at-requires
 at-requires c κs = search needs
 
 write-cursor-requires : tie.Need-write-cursor-requires
-write-cursor-requires c κs = search needs
+write-cursor-requires c κs = rw (c .before .at .ensures) (able-held (c .before .before .before .pre))
 
 same-length : tie.Need-same-length
 same-length c = search needs
 
 returns : tie.Need-returns
 unfolding finish
-returns c = then (rw (c .before .before .before .before .at .ensures) at (c .before .before .write-cursor .ensures)) (rw (c .before .before .before .before .at .ensures) (done (c .before .before .write-cursor .ensures .good)))
+returns c =
+    let e = c .before .before .before .before .at .ensures in
+    let w = rw e at (c .before .before .write-cursor .ensures) in
+    after w (moves e (w .good))
 
 pub finish-spec : {M : Type 1} → statement M
 finish-spec = tie.close (tie.spec at-requires write-cursor-requires same-length returns)

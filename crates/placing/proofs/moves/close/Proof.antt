@@ -1,7 +1,7 @@
 -- `moves::close` meets its contract: one step, then the other.
 use borrow.Author.Needs.{needs}
 use Rattle.layout.specs.Able.{able-first, able-next}
-use Rattle.layout.specs.Ran.{then}
+use Rattle.layout.specs.Moved.{onto}
 use Rattle.calls.specs.Placing.{close}
 use Rattle.placing.proofs.moves.close.Statement.{statement}
 use Rattle.placing.proofs.moves.close.Tie as tie
@@ -12,14 +12,18 @@ unlink-requires c κs = able-first (c .before .before .pre)
 
 replace-all-requires : tie.Need-replace-all-requires
 unfolding close
-replace-all-requires c κs = able-next (c .before .before .before .before .before .before .pre) (c .before .before .before .unlink .ensures)
+replace-all-requires c κs =
+    let m = c .before .before .before .unlink .ensures in
+    rw (m .settings) (able-next (c .before .before .before .before .before .before .pre) (m .ran))
 
 same-length : tie.Need-same-length
 same-length c = search needs
 
 returns : tie.Need-returns
 unfolding close
-returns c = then (c .before .before .before .before .before .before .unlink .ensures) (c .before .before .replace-all .ensures)
+returns c =
+    let m = c .before .before .before .before .before .before .unlink .ensures in
+    onto m (rw (m .settings) at (c .before .before .replace-all .ensures))
 
 pub close-spec : {M : Type 1} → statement M
 close-spec = tie.close (tie.spec unlink-requires replace-all-requires same-length returns)

@@ -1,8 +1,9 @@
 -- `moves::make_room` meets its contract: either test opens a block.
+use mathlib.Core.Path.{refl}
 use borrow.Author.Needs.{needs}
 use borrow.Author.Tests.{eq-eqb, ne-eqb}
 use Rattle.layout.specs.Able.{able-taken}
-use Rattle.layout.specs.Ran.{done, taken, passed}
+use Rattle.layout.specs.Moved.{stays, if-taken, if-passed}
 use Rattle.calls.specs.Placing.{makeRoom}
 use Rattle.placing.proofs.moves.make_room.Statement.{statement}
 use Rattle.placing.proofs.moves.make_room.Tie as tie
@@ -16,22 +17,22 @@ same-length c = search needs
 
 returns : tie.Need-returns
 unfolding makeRoom
-returns c = taken (rw (eq-eqb _ _ (c .before .before .before .before .if1 .taken))) (c .before .before .roll .ensures)
+returns c = if-taken (rw (eq-eqb _ _ (c .before .before .before .before .if1 .taken))) (c .before .before .roll .ensures)
 
 roll-requires-2 : tie.Need-roll-requires-2
 unfolding makeRoom
-roll-requires-2 c κs = able-taken (rw (ne-eqb _ _ (c .before .before .before .before .if1 .left), eq-eqb _ _ (c .before .if2 .taken))) (c .before .before .before .before .before .before .before .pre)
+roll-requires-2 c κs = able-taken (rw (ne-eqb _ _ (c .before .before .before .if1 .left), eq-eqb _ _ (c .before .if2 .taken))) (c .before .before .before .before .before .before .pre)
 
 same-length-2 : tie.Need-same-length-2
 same-length-2 c = search needs
 
 returns-2 : tie.Need-returns-2
 unfolding makeRoom
-returns-2 c = taken (rw (ne-eqb _ _ (c .before .before .before .before .before .before .before .if1 .left), eq-eqb _ _ (c .before .before .before .before .if2 .taken))) (c .before .before .roll2 .ensures)
+returns-2 c = if-taken (rw (ne-eqb _ _ (c .before .before .before .before .before .before .if1 .left), eq-eqb _ _ (c .before .before .before .before .if2 .taken))) (c .before .before .roll2 .ensures)
 
 returns-3 : tie.Need-returns-3
 unfolding makeRoom
-returns-3 c = passed (rw (ne-eqb _ _ (c .before .before .before .if1 .left), ne-eqb _ _ (c .if2 .left))) (done (c .before .before .before .before .before .before .pre .agree .good))
+returns-3 c = if-passed (rw (ne-eqb _ _ (c .before .before .if1 .left), ne-eqb _ _ (c .if2 .left))) (stays refl (c .before .before .before .before .before .pre .agree .good))
 
 pub make-room-spec : {M : Type 1} → statement M
 make-room-spec =

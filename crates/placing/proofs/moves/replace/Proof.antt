@@ -1,7 +1,7 @@
 -- `moves::replace` meets its contract: one step, then the other.
 use borrow.Author.Needs.{needs}
 use Rattle.layout.specs.Able.{able-first, able-next}
-use Rattle.layout.specs.Ran.{then}
+use Rattle.layout.specs.Moved.{onto}
 use Rattle.calls.specs.Placing.{replace}
 use Rattle.placing.proofs.moves.replace.Statement.{statement}
 use Rattle.placing.proofs.moves.replace.Tie as tie
@@ -12,14 +12,18 @@ make-room-requires c κs = able-first (c .before .before .pre)
 
 move-record-requires : tie.Need-move-record-requires
 unfolding replace
-move-record-requires c κs = able-next (c .before .before .before .before .before .before .pre) (c .before .before .before .make-room .ensures)
+move-record-requires c κs =
+    let m = c .before .before .before .make-room .ensures in
+    rw (m .settings) (able-next (c .before .before .before .before .before .before .pre) (m .ran))
 
 same-length : tie.Need-same-length
 same-length c = search needs
 
 returns : tie.Need-returns
 unfolding replace
-returns c = then (c .before .before .before .before .before .before .make-room .ensures) (c .before .before .move-record .ensures)
+returns c =
+    let m = c .before .before .before .before .before .before .make-room .ensures in
+    onto m (rw (m .settings) at (c .before .before .move-record .ensures))
 
 pub replace-spec : {M : Type 1} → statement M
 replace-spec = tie.close (tie.spec make-room-requires move-record-requires same-length returns)

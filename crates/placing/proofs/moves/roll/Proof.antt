@@ -2,7 +2,7 @@
 use borrow.Author.Needs.{needs}
 use borrow.Author.Tests.{eq-eqb, ne-eqb}
 use Rattle.layout.specs.Able.{able-first, able-next, able-passed}
-use Rattle.layout.specs.Ran.{then, done, taken, passed}
+use Rattle.layout.specs.Moved.{stays, after, onto, if-taken, if-passed}
 use Rattle.calls.specs.Placing.{roll}
 use Rattle.placing.proofs.moves.roll.Statement.{statement}
 use Rattle.placing.proofs.moves.roll.Tie as tie
@@ -16,18 +16,24 @@ same-length c = search needs
 
 returns : tie.Need-returns
 unfolding roll
-returns c = then (c .before .before .before .open-block .ensures) (taken (eq-eqb _ _ (c .if1 .taken)) (done (c .before .before .before .open-block .ensures .good)))
+returns c =
+    let m = c .before .before .before .open-block .ensures in
+    after (m .ran) (if-taken (eq-eqb _ _ (c .if1 .taken)) (stays (m .settings) (m .ran .good)))
 
 judge-full-requires : tie.Need-judge-full-requires
 unfolding roll
-judge-full-requires c κs = able-passed (ne-eqb _ _ (c .before .if1 .left)) (able-next (c .before .before .before .before .before .before .before .pre) (c .before .before .before .before .open-block .ensures))
+judge-full-requires c κs =
+    let m = c .before .before .before .before .open-block .ensures in
+    rw (m .settings) (able-passed (ne-eqb _ _ (c .before .if1 .left)) (able-next (c .before .before .before .before .before .before .before .pre) (m .ran)))
 
 same-length-2 : tie.Need-same-length-2
 same-length-2 c = search needs
 
 returns-2 : tie.Need-returns-2
 unfolding roll
-returns-2 c = then (c .before .before .before .before .before .before .before .open-block .ensures) (passed (ne-eqb _ _ (c .before .before .before .before .if1 .left)) (c .before .before .judge-full .ensures))
+returns-2 c =
+    let m = c .before .before .before .before .before .before .before .open-block .ensures in
+    onto m (if-passed (ne-eqb _ _ (c .before .before .before .before .if1 .left)) (rw (m .settings) at (c .before .before .judge-full .ensures)))
 
 pub roll-spec : {M : Type 1} → statement M
 roll-spec =

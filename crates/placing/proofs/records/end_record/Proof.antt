@@ -12,8 +12,8 @@ write-requires c κs = let p = end-spot _ _ _ (c .before .before .pre) in search
 read-requires : tie.Need-read-requires
 read-requires c κs = let p = end-spot _ _ _ (c .before .before .before .before .before .before .pre) in search needs
 
-without-bit-requires : tie.Need-without-bit-requires
-without-bit-requires c κs = search needs
+bit-off-requires : tie.Need-bit-off-requires
+bit-off-requires c κs = search needs
 
 write-requires-2 : tie.Need-write-requires-2
 write-requires-2 c κs = let p = end-spot _ _ _ (c .before .before .before .before .before .before .before .before .before .pre) in search needs
@@ -28,7 +28,7 @@ returns c =
     let d = f .before in
     let b = d .before .before in
     let a = b .before .before .before .before in
-    then (a .write .ensures) (then (b .read .ensures) (rw (← d .without-bit .ensures) (f .write2 .ensures)))
+    then (a .write .ensures) (then (b .read .ensures) (rw (← d .bit-off .ensures) (f .write2 .ensures)))
 
 pub end-record-spec : {M : Type 1} → statement M
 end-record-spec =
@@ -36,7 +36,7 @@ end-record-spec =
     (tie.spec
     write-requires
     read-requires
-    without-bit-requires
+    bit-off-requires
     write-requires-2
     same-length
     returns)

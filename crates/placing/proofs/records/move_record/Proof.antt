@@ -1,7 +1,7 @@
 -- `records::move_record` meets its contract: one step after the other.
 use borrow.Author.Needs.{needs}
 use Rattle.layout.specs.Able.{able-first, able-next}
-use Rattle.layout.specs.Ran.{then}
+use Rattle.layout.specs.Moved.{after}
 use Rattle.calls.specs.Placing.{moveRecord}
 use Rattle.placing.proofs.AbleLaws.{reads}
 use Rattle.placing.proofs.records.move_record.Statement.{statement}
@@ -9,15 +9,15 @@ use Rattle.placing.proofs.records.move_record.Tie as tie
 
 read-requires : tie.Need-read-requires
 unfolding moveRecord
-read-requires c κs = reads _ (c .before .before .pre)
+read-requires c κs = reads _ (c .before .before .before .pre)
 
 read-requires-2 : tie.Need-read-requires-2
 unfolding moveRecord
-read-requires-2 c κs = reads _ (able-next (c .before .before .before .before .pre) (c .before .read .ensures))
+read-requires-2 c κs = reads _ (able-next (c .before .before .before .before .before .pre) (c .before .read .ensures))
 
 end-record-requires : tie.Need-end-record-requires
 unfolding moveRecord
-end-record-requires c κs = able-first (able-next (able-next (c .before .before .before .before .before .before .pre) (c .before .before .before .read .ensures)) (c .before .read2 .ensures))
+end-record-requires c κs = able-first (able-next (able-next (c .before .before .before .before .before .before .before .pre) (c .before .before .before .read .ensures)) (c .before .read2 .ensures))
 
 put-record-requires : tie.Need-put-record-requires
 unfolding moveRecord
@@ -26,7 +26,7 @@ put-record-requires c κs =
     let d = f .before .before in
     let b = d .before .before in
     let a = b .before .before .before in
-    able-next (able-next (able-next (a .pre) (b .read .ensures)) (d .read2 .ensures)) (f .end-record .ensures)
+    able-next (able-next (able-next (a .before .pre) (b .read .ensures)) (d .read2 .ensures)) (f .end-record .ensures)
 
 same-length : tie.Need-same-length
 same-length c = search needs
@@ -38,7 +38,7 @@ returns c =
     let d = f .before .before .before .before in
     let b = d .before .before in
     let a = b .before .before in
-    then (a .read .ensures) (then (b .read2 .ensures) (then (d .end-record .ensures) (f .put-record .ensures)))
+    after (a .read .ensures) (after (b .read2 .ensures) (after (d .end-record .ensures) (f .put-record .ensures)))
 
 pub move-record-spec : {M : Type 1} → statement M
 move-record-spec =

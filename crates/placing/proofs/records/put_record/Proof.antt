@@ -2,47 +2,48 @@
 use mathlib.Core.Path.{_∙_}
 use native.Mathlib.Omega.{arith}
 use borrow.Author.Needs.{needs}
-use Rattle.layout.specs.Ran.{then, done, ran-length}
+use Rattle.layout.specs.Ran.{ran-length}
+use Rattle.layout.specs.Moved.{moves, after}
 use Rattle.calls.specs.Placing.{putRecord}
 use Rattle.placing.proofs.AbleLaws.{put-spot, put-tag, held-after}
 use Rattle.placing.proofs.records.put_record.Statement.{statement}
 use Rattle.placing.proofs.records.put_record.Tie as tie
 
 place-of-requires : tie.Need-place-of-requires
-place-of-requires c κs = put-spot _ _ _ _ (c .before .pre)
+place-of-requires c κs = put-spot _ _ _ _ (c .before .before .pre)
 
 write-requires : tie.Need-write-requires
-write-requires c κs = let p = put-spot _ _ _ _ (c .before .before .before .pre) in search needs
+write-requires c κs = let p = put-spot _ _ _ _ (c .before .before .before .before .pre) in search needs
 
 write-requires-2 : tie.Need-write-requires-2
-write-requires-2 c κs = let p = put-spot _ _ _ _ (c .before .before .before .before .before .before .before .pre) in search needs
+write-requires-2 c κs = let p = put-spot _ _ _ _ (c .before .before .before .before .before .before .before .before .pre) in search needs
 
 write-requires-3 : tie.Need-write-requires-3
-write-requires-3 c κs = let p = put-spot _ _ _ _ (c .before .before .before .before .before .before .before .before .before .before .before .pre) in search needs
+write-requires-3 c κs = let p = put-spot _ _ _ _ (c .before .before .before .before .before .before .before .before .before .before .before .before .pre) in search needs
 
 write-requires-4 : tie.Need-write-requires-4
-write-requires-4 c κs = let p = put-spot _ _ _ _ (c .before .before .before .before .before .before .before .before .before .before .before .before .before .before .before .pre) in search needs
+write-requires-4 c κs = let p = put-spot _ _ _ _ (c .before .before .before .before .before .before .before .before .before .before .before .before .before .before .before .before .pre) in search needs
 
 read-requires : tie.Need-read-requires
-read-requires c κs = let p = put-spot _ _ _ _ (c .before .before .before .before .before .before .before .before .before .before .before .before .before .before .before .before .before .before .before .pre) in search needs
+read-requires c κs = let p = put-spot _ _ _ _ (c .before .before .before .before .before .before .before .before .before .before .before .before .before .before .before .before .before .before .before .before .pre) in search needs
 
-with-bit-requires : tie.Need-with-bit-requires
-with-bit-requires c κs = search needs
+bit-on-requires : tie.Need-bit-on-requires
+bit-on-requires c κs = search needs
 
 write-requires-5 : tie.Need-write-requires-5
 write-requires-5 c κs =
     let b = c .before .before in
     let a = b .before .before .before .before .before .before .before .before .before .before .before .before .before .before .before .before .before .before .before .before in
-    let p = put-spot _ _ _ _ (a .pre) in ((p .block, omega (arith, p .slot, p .within)), held-after (a .pre) (b .read .ensures))
+    let p = put-spot _ _ _ _ (a .before .pre) in ((p .block, omega (arith, p .slot, p .within)), held-after (a .before .pre) (b .read .ensures))
 
 write-requires-6 : tie.Need-write-requires-6
 write-requires-6 c κs =
     let b = c .before .before .before in
     let a = b .before .before .before .before .before .before .before .before .before .before .before .before .before .before .before .before .before .before .before .before .before .before .before in
-    (put-tag _ _ _ _ (a .pre), held-after (a .pre) (b .write5 .ensures))
+    (put-tag _ _ _ _ (a .before .pre), held-after (a .before .pre) (b .write5 .ensures))
 
 filled-requires : tie.Need-filled-requires
-filled-requires c κs = let p = put-spot _ _ _ _ (c .before .before .before .before .before .before .before .before .before .before .before .before .before .before .before .before .before .before .before .before .before .before .before .before .before .before .before .before .before .pre) in omega (arith, p .slot, p .within)
+filled-requires c κs = let p = put-spot _ _ _ _ (c .before .before .before .before .before .before .before .before .before .before .before .before .before .before .before .before .before .before .before .before .before .before .before .before .before .before .before .before .before .before .pre) in omega (arith, p .slot, p .within)
 
 same-length : tie.Need-same-length
 same-length c =
@@ -66,7 +67,7 @@ returns c =
     let d = f .before .before .before .before in
     let b = d .before .before .before .before in
     let a = b .before .before in
-    then (b .write .ensures) (then (d .write2 .ensures) (then (f .write3 .ensures) (then (g .write4 .ensures) (then (h .read .ensures) (then (rw (i .with-bit .ensures) at (j .write5 .ensures)) (then (rw (a .place-of .ensures) at (k .write6 .ensures)) (rw (c .filled .ensures) (done (k .write6 .ensures .good)))))))))
+    after (b .write .ensures) (after (d .write2 .ensures) (after (f .write3 .ensures) (after (g .write4 .ensures) (after (h .read .ensures) (after (rw (i .bit-on .ensures) at (j .write5 .ensures)) (after (rw (a .place-of .ensures) at (k .write6 .ensures)) (moves (c .filled .ensures) (k .write6 .ensures .good))))))))
 
 pub put-record-spec : {M : Type 1} → statement M
 put-record-spec =
@@ -78,7 +79,7 @@ put-record-spec =
     write-requires-3
     write-requires-4
     read-requires
-    with-bit-requires
+    bit-on-requires
     write-requires-5
     write-requires-6
     filled-requires

@@ -4,7 +4,7 @@ use Prim.Native.Nat.{_-_, _≤_}
 use native.Mathlib.Omega.{arith}
 use lib.ListN.{length, take}
 use borrow.Author.Needs.{needs}
-use Rattle.calls.specs.Step.{reader}
+use Rattle.calls.specs.LookBack.{reader}
 use Rattle.timeslice.specs.declared.rows.Took.the-variants.{Rows}
 use Rattle.timeslice.specs.Taken.{Takes}
 use Rattle.timeslice.specs.Listed.{rowsIn}

@@ -3,7 +3,7 @@ use mathlib.Core.Path.{_≡_, refl, _∙_}
 use native.Mathlib.Omega.{arith}
 use lib.ListN.{length}
 use borrow.Author.Needs.{needs}
-use Rattle.calls.specs.Step.{reader}
+use Rattle.calls.specs.LookBack.{reader}
 use Rattle.timeslice.specs.Told.{Reach}
 use Rattle.timeslice.specs.ToldLaws.{blocks-of}
 use Rattle.timeslice.specs.PathLaws.{Onward, begun, path-ends, path-stops, path-visit-stops, path-turn, reach-numbered, reach-space, visit-room, up-below, rest-room}

@@ -1,0 +1,4 @@
+pub mod Sinks
+pub mod Session
+pub mod SinkLaws
+pub mod SessionLaws

@@ -1,0 +1,9 @@
+pub mod EdgesStores
+pub mod EdgesHead
+pub mod EdgesChange
+pub mod EdgesLookBack
+pub mod EdgesWords
+pub mod Edges
+pub mod EdgesHeadProof
+pub mod EdgesWordsProof
+pub mod EdgesProof

@@ -1,0 +1,2 @@
+// Definitions and proofs only: the second proved table, of the edges of the refusals (specs/Edges.antt).
+fn nothing() {}

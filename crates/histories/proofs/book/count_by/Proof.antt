@@ -1,0 +1,22 @@
+-- `histories::book::count_by` is safe and ends: nothing has to hold from turn to turn, and the loop counts up to its end.
+-- Assumes nothing.
+use Prim.Native.Nat.{_-_}
+use borrow.Author.Needs.{needs}
+use Rattle.histories.proofs.book.count_by.Statement.{statement}
+use Rattle.histories.proofs.book.count_by.Tie as tie
+
+pub count-by-spec : {M : Type 1} → statement M
+count-by-spec =
+    tie.close
+    (tie.spec
+    (λ _ _ _ _ _ _ _ _. Unit {0})
+    (λ _ _ _ last _ _ _ i. last - i)
+    (search needs)
+    (search needs)
+    (search needs)
+    (search needs)
+    (search needs)
+    (search needs)
+    (search needs)
+    (search needs)
+    (search needs))

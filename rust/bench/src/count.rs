@@ -1,0 +1,107 @@
+//! One kind of call by one register, so that callgrind can count its instructions: only what runs inside `counted_change`
+//! or `counted_look_back` is counted (count.sh). Inputs, start and the calls of other kinds run outside.
+use crate::input::{self, Change, Kind};
+use bench::{Answer, Calls, Independent, Proved, Refusal, Settings};
+use std::hint::black_box;
+
+pub fn run(who: &str, what: &str, work: &str, block: &str) {
+    let settings = input::settings(block.parse().expect("b is a number"));
+    let all = input::named(work);
+    let changes = input::cut(&all, settings);
+    let count = match who {
+        "proved" => count::<Proved>,
+        "independent" => count::<Independent>,
+        "nothing" => count::<Nothing>,
+        _ => panic!("no such register: {who}"),
+    };
+    println!("{}", count(Kind::named(what), settings, changes));
+}
+
+/// Makes the calls and gives how many were counted.
+fn count<R: Calls>(kind: Option<Kind>, settings: Settings, changes: &[Change]) -> usize {
+    let mut store = vec![0; settings.words()];
+    Independent::start(&mut store, settings).expect("sound settings");
+    match kind {
+        Some(kind) => count_changes::<R>(&mut store, kind, changes),
+        None => count_look_backs::<R>(&mut store, settings, changes),
+    }
+}
+
+/// All changes by one register; those of one kind are counted.
+fn count_changes<R: Calls>(store: &mut [u32], kind: Kind, changes: &[Change]) -> usize {
+    let call: ChangeCall = match kind {
+        Kind::Set => |store, c| R::set(store, c.second, c.tag, c.reading).is_ok(),
+        Kind::Clear => |store, c| R::clear(store, c.second, c.tag).is_ok(),
+        Kind::Update => |store, c| R::update(store, c.second, c.tag, c.reading).is_ok(),
+    };
+    let mut counted = 0;
+    for change in changes {
+        if change.kind == kind {
+            assert!(counted_change(call, store, change), "the changes are cut at the first refusal");
+            counted += 1;
+        } else {
+            input::apply::<R>(store, change).expect("the changes are cut at the first refusal");
+        }
+    }
+    counted
+}
+
+/// Look-backs, at 100 seconds each of old, middle and recent, on the store after all changes.
+fn count_look_backs<R: Calls>(store: &mut [u32], settings: Settings, changes: &[Change]) -> usize {
+    for change in changes {
+        input::apply::<Independent>(store, change).expect("the changes are cut at the first refusal");
+    }
+    let (mut rows, mut list) = (vec![0; 2 * settings.tags as usize], vec![0; settings.blocks as usize]);
+    let call: LookBackCall = |store, t, rows, list| R::look_back(store, t, rows, list).is_ok();
+    let seconds: Vec<u32> = [5, 50, 99].into_iter().flat_map(|from| input::seconds(changes, from, 100)).collect();
+    for &t in &seconds {
+        assert!(counted_look_back(call, store, t, &mut rows, &mut list), "the seconds are not after the clock");
+    }
+    seconds.len()
+}
+
+type ChangeCall = fn(&mut [u32], &Change) -> bool;
+type LookBackCall = fn(&[u32], u32, &mut [u32], &mut [u32]) -> bool;
+
+/// What callgrind counts of a change.
+#[inline(never)]
+#[unsafe(no_mangle)]
+fn counted_change(call: ChangeCall, store: &mut [u32], change: &Change) -> bool {
+    black_box(call)(store, change)
+}
+
+/// What callgrind counts of a look-back.
+#[inline(never)]
+#[unsafe(no_mangle)]
+fn counted_look_back(call: LookBackCall, store: &[u32], t: u32, rows: &mut [u32], list: &mut [u32]) -> bool {
+    black_box(call)(store, t, rows, list)
+}
+
+/// A register that does nothing: what the functions around a call cost.
+struct Nothing;
+
+impl Calls for Nothing {
+    fn start(_: &mut [u32], _: Settings) -> Result<(), Refusal> {
+        Ok(())
+    }
+    fn set(store: &mut [u32], second: u32, tag: u32, reading: i32) -> Result<(), Refusal> {
+        black_box((store.len(), second, tag, reading));
+        Ok(())
+    }
+    fn clear(store: &mut [u32], second: u32, tag: u32) -> Result<(), Refusal> {
+        black_box((store.len(), second, tag));
+        Ok(())
+    }
+    fn update(store: &mut [u32], second: u32, tag: u32, reading: i32) -> Result<(), Refusal> {
+        black_box((store.len(), second, tag, reading));
+        Ok(())
+    }
+    fn advance(store: &mut [u32], second: u32) -> Result<(), Refusal> {
+        black_box((store.len(), second));
+        Ok(())
+    }
+    fn look_back(store: &[u32], second: u32, rows: &mut [u32], list: &mut [u32]) -> Result<Answer, Refusal> {
+        black_box((store.len(), second, rows.len(), list.len()));
+        Ok(Answer { rows: 0, pages: 0, blocks: 0, page: [0; 3] })
+    }
+}
