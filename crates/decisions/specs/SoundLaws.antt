@@ -16,11 +16,11 @@ use Rattle.layout.specs.Fields.{upWord, rightWord, tagWord}
 use Rattle.layout.specs.Memory.{Memory}
 use Rattle.layout.specs.Head.{placed}
 use Rattle.layout.specs.HeadLaws.{SoundHead}
-use Rattle.layout.specs.Standing.{slots, stands, lowered, firstSlot, otherSlots}
+use Rattle.layout.specs.Standing.{slots, stands, lowered, firstSlot, otherSlots, blockBits}
 use Rattle.layout.specs.StandingLaws as empty
 use Rattle.layout.specs.StandingLaws.{TwoWords, slots-empty, slots-next, other-words, other-fewer}
 use Rattle.calls.specs.Placing.{blockOf, slotOf}
-use Rattle.calls.specs.Refusals.{Test, anyOf, opens, bitsOf, tagBlock, closes, copies, acceptorCloses, afterClear, badPlace, badBlock, unsoundSet, unsoundClear, blocksOut}
+use Rattle.calls.specs.Refusals.{Test, anyOf, opens, tagBlock, closes, copies, acceptorCloses, afterClear, badPlace, badBlock, unsoundSet, unsoundClear, blocksOut}
 use Rattle.decisions.specs.TestLaws.{First, hit, miss, none}
 use Rattle.decisions.specs.EffectLaws.{InPlace, in-place, fewWhenFull}
 
@@ -91,22 +91,22 @@ module _ (h : Head) (f : Memory) where
   unfolding badLinks
   bad-links n up right u a r l = rw (up, right, u, a, r, l)
 
-  pub bad-block : (n : ℕ) {a b : Bool} → badLinks h f n ≡ a → anyOf (badSlot h f n) (slots (bitsOf h f n)) ≡ b → badBlock h f n ≡ (a || b)
+  pub bad-block : (n : ℕ) {a b : Bool} → badLinks h f n ≡ a → anyOf (badSlot h f n) (slots (blockBits f n)) ≡ b → badBlock h f n ≡ (a || b)
   unfolding badBlock badLinks badSlot
   bad-block n a b = rw (a, b)
 
   -- ---- the place p of a tag, in slot k of block n
   module _ (tag : ℕ) {p n k : ℕ} (is : p ≡ f (Dir tag)) (in-block : n ≡ blockOf (h .settings) p) (in-slot : k ≡ slotOf (h .settings) p) where
-    pub bad-place : {m t : ℕ} {bits : Standing} → m ≡ placed h → f (Slot n k tagWord) ≡ t → bits ≡ bitsOf h f n → {a b c : Bool} → ltb m p ≡ a
+    pub bad-place : {m t : ℕ} {bits : Standing} → m ≡ placed h → f (Slot n k tagWord) ≡ t → bits ≡ blockBits f n → {a b c : Bool} → ltb m p ≡ a
         → eqb t tag ≡ b → stands bits k ≡ c → badPlace h f tag ≡ (a || not b || not c)
     unfolding badPlace
     bad-place m t bits a b c = rw (← is, ← in-block, ← in-slot, ← m, t, ← bits, a, b, c)
 
     -- the acceptor's standing bits after a clear there
-    pub after-here : {b : Standing} → b ≡ bitsOf h f (h .cursor .opened) → n ≡ h .cursor .opened → lowered b k ≡ afterClear h f tag
+    pub after-here : {b : Standing} → b ≡ blockBits f (h .cursor .opened) → n ≡ h .cursor .opened → lowered b k ≡ afterClear h f tag
     after-here e g = rw (← is, ← in-block, ← in-slot, ← e, eq-eqb n (h .cursor .opened) g)
 
-    pub after-there : {b : Standing} → b ≡ bitsOf h f (h .cursor .opened) → n ≢ h .cursor .opened → b ≡ afterClear h f tag
+    pub after-there : {b : Standing} → b ≡ blockBits f (h .cursor .opened) → n ≢ h .cursor .opened → b ≡ afterClear h f tag
     after-there e d = rw (← is, ← in-block, ne-eqb n (h .cursor .opened) d) e
 
   -- ---- the acceptor, few standing or not
@@ -116,7 +116,7 @@ module _ (h : Head) (f : Memory) where
   bad-acceptor b a e = rw (ne-eqb (h .cursor .opened) 0 (λ z. omega arith), e)
 
   -- ---- a set, where a block opens and where none does
-  pub set-opens : {b : Bool} → opens h 1 ≡ true → badAcceptor h f (bitsOf h f (h .cursor .opened)) ≡ b → unsoundSet h f ≡ b
+  pub set-opens : {b : Bool} → opens h 1 ≡ true → badAcceptor h f (blockBits f (h .cursor .opened)) ≡ b → unsoundSet h f ≡ b
   unfolding badAcceptor unsoundSet
   set-opens e g = rw e g
 

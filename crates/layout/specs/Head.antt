@@ -14,8 +14,8 @@ use Rattle.layout.specs.Fields.{headMark, headBlock, headUseful, headBlo
 use Rattle.layout.specs.Settings.{inLimits}
 
 -- the head that a start leaves: no block is opened, and the clock is 0
-abbrev pub fresh : Settings → Head
-fresh s = record { settings = s; cursor = record { opened = 0; clock = 0; fill = 0; child = 0; right = 0 } }
+abbrev pub freshHead : Settings → Head
+freshHead s = record { settings = s; cursor = record { opened = 0; clock = 0; fill = 0; child = 0; right = 0 } }
 
 -- the head moves on: its settings stay
 abbrev pub onward : Head → Cursor → Head

@@ -12,7 +12,7 @@ use lib.Count.{ones-le}
 use borrow.Author.Tests.{eqb-true, eqb-false, eq-eqb, ne-eqb, lt-ltb, le-ltb}
 use Rattle.base.specs.Branch.{lt?, is?, and-true}
 use Rattle.base.specs.Bits.{bitAt, withBit, withoutBit, bit-two, with-here, with-other, with-below, without-here, without-other, without-below}
-use Rattle.base.specs.Places.{bitsFrom, bits-on, bits-off, next-below, Lists, lists-append, bits-list}
+use Rattle.base.specs.Ones.{bitsFrom, bits-on, bits-off, next-below, Lists, lists-append, bits-list}
 use Rattle.base.specs.Slots.{slotsOf, slots-count, slots-none, slots-next-low, slots-next-high}
 use Rattle.layout.specs.declared.standing.Standing.{Standing}
 use Rattle.layout.specs.Standing.{slots, stands, raised, lowered, firstSlot, otherSlots}

@@ -4,7 +4,7 @@ ghost use Prim.Native.Nat.{_^_, _<_};
 ghost use lib.Dec.{eqb};
 ghost use lib.ListN.{length};
 ghost use Rattle.base.specs.Bits.{bitAt, withBit, withoutBit};
-ghost use Rattle.base.specs.Places.{lowerOff};
+ghost use Rattle.base.specs.Ones.{lowerOff};
 ghost use Rattle.layout.specs.Standing.{slots, stands, raised, lowered, firstSlot, otherSlots};
 ghost use Rattle.layout.specs.StandingLaws.{none};
 

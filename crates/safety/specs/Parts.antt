@@ -20,17 +20,17 @@ use Rattle.layout.specs.Settings.{Within}
 use Rattle.layout.specs.Address.{Numbered}
 use Rattle.layout.specs.Memory.{Memory}
 use Rattle.layout.specs.Program.{Prog, bind, set! }
-use Rattle.layout.specs.Standing.{slots, raised, lowered}
+use Rattle.layout.specs.Standing.{slots, raised, lowered, blockBits}
 use Rattle.calls.specs.Placing.{enterTime, openBlock, unlink, endRecord, standing, putRecord, moveRecord}
 use Rattle.safety.specs.Goes.{Goes, goes-get, goes-set, goes-wipe, goes-ret, goes-on, goes-when, goes-so}
-use Rattle.safety.specs.Sound.{bitsIn, bit-raised, bit-lowered, bit-elsewhere, and-none, Movable}
+use Rattle.safety.specs.Sound.{bit-raised, bit-lowered, bit-elsewhere, and-none, Movable}
 
 -- ---- a record ends
 pub record Ended (f : Memory) (n k : ℕ) (g : Memory) : Type 0 where
   pub tags : (m j : ℕ) → g (Slot m j tagWord) ≡ f (Slot m j tagWord)
   pub fields : (m j : ℕ) → g (Field m j) ≡ f (Field m j)
-  pub here : bitsIn g n ≡ lowered (bitsIn f n) k
-  pub elsewhere : (m : ℕ) → m ≢ n → bitsIn g m ≡ bitsIn f m
+  pub here : blockBits g n ≡ lowered (blockBits f n) k
+  pub elsewhere : (m : ℕ) → m ≢ n → blockBits g m ≡ blockBits f m
 
 -- ---- a record with this tag goes to the acceptor's next slot
 pub record Placed (f : Memory) (c : Cursor) (tag : ℕ) (d : Cursor) (g : Memory) : Type 0 where
@@ -40,14 +40,14 @@ pub record Placed (f : Memory) (c : Cursor) (tag : ℕ) (d : Cursor) (g : Memory
   pub slots : (k : ℕ) → k ≢ c .fill → g (Slot (c .opened) k tagWord) ≡ f (Slot (c .opened) k tagWord)
   pub tags : (n k : ℕ) → n ≢ c .opened → g (Slot n k tagWord) ≡ f (Slot n k tagWord)
   pub ups : (n : ℕ) → g (Field n upWord) ≡ f (Field n upWord)
-  pub bits : bitsIn g (c .opened) ≡ raised (bitsIn f (c .opened)) (c .fill)
+  pub bits : blockBits g (c .opened) ≡ raised (blockBits f (c .opened)) (c .fill)
 
 -- ---- a block leaves the row: its right neighbour's up becomes its up
 pub record Unlinked (f : Memory) (c : Cursor) (x : ℕ) (d : Cursor) (g : Memory) : Type 0 where
   pub opened : d .opened ≡ c .opened
   pub fill : d .fill ≡ c .fill
   pub tags : (n k : ℕ) → g (Slot n k tagWord) ≡ f (Slot n k tagWord)
-  pub bits : (n : ℕ) → bitsIn g n ≡ bitsIn f n
+  pub bits : (n : ℕ) → blockBits g n ≡ blockBits f n
   pub ups : (n : ℕ) → g (Field n upWord) ≡ cond (eqb (f (Field x rightWord)) n) (f (Field x upWord)) (f (Field n upWord))
 
 -- ---- block N + 1 opens, empty, right of block N
@@ -55,7 +55,7 @@ pub record Grown (f : Memory) (c d : Cursor) (g : Memory) : Type 0 where
   pub opened : d .opened ≡ c .opened + 1
   pub fill : d .fill ≡ 0
   pub tags : (n k : ℕ) → n ≢ c .opened + 1 → g (Slot n k tagWord) ≡ f (Slot n k tagWord)
-  pub bits : (n : ℕ) → n ≢ c .opened + 1 → bitsIn g n ≡ bitsIn f n
+  pub bits : (n : ℕ) → n ≢ c .opened + 1 → blockBits g n ≡ blockBits f n
   pub ups : (n : ℕ) → n ≢ c .opened + 1 → g (Field n upWord) ≡ f (Field n upWord)
   pub right : 1 ≤ c .opened → g (Field (c .opened) rightWord) ≡ c .opened + 1
 
@@ -113,7 +113,7 @@ module _ (s : Settings) (z : Within s) where
       }))))
 
   -- the standing slots of a block are read, then the rest
-  pub goes-standing : {A : Type 0} {k : List ℕ → Prog A} {f : Memory} {R : A → Memory → Type 0} (x : ℕ) → Numbered s x → Goes s (k (slots (bitsIn f x))) f R
+  pub goes-standing : {A : Type 0} {k : List ℕ → Prog A} {f : Memory} {R : A → Memory → Type 0} (x : ℕ) → Numbered s x → Goes s (k (slots (blockBits f x))) f R
       → Goes s (bind (standing x) k) f R
   unfolding standing
   goes-standing x nx g = record { safe = ((((nx, lit≤ tt), tt), (((nx, lit≤ tt), tt), tt)), g .safe); leaves = g .leaves }

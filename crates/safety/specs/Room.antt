@@ -19,12 +19,12 @@ use Rattle.layout.specs.Fields.{upWord, rightWord, tagWord}
 use Rattle.layout.specs.Settings.{Within}
 use Rattle.layout.specs.Address.{Numbered}
 use Rattle.layout.specs.Memory.{Memory}
-use Rattle.layout.specs.Standing.{slots, stands}
+use Rattle.layout.specs.Standing.{slots, stands, blockBits}
 use Rattle.layout.specs.StandingLaws.{raised-other}
 use Rattle.calls.specs.Placing.{moveRecord, closeFull, judgeFull, roll, makeRoom, place}
 use Rattle.calls.specs.Refusals.{takenUp}
 use Rattle.safety.specs.Goes.{Goes, goes-ret, goes-on, goes-when, goes-each, goes-so}
-use Rattle.safety.specs.Sound.{bitsIn, Movable, Sound, sound-slots, sound-in, all-first, all-others}
+use Rattle.safety.specs.Sound.{Movable, Sound, sound-slots, sound-in, all-first, all-others}
 use Rattle.safety.specs.Parts.{Placed, put-goes, move-goes, goes-standing, unlink-goes, open-goes}
 
 -- ---- m more records are to come, with n blocks opened and fill records in the last
@@ -37,7 +37,7 @@ pub record Ready (s : Settings) (f : Memory) (m n fill : ℕ) : Type 0 where
   pub few : m ≤ s .useful
   -- if they have no room, a block is left, and the acceptor is sound if it closes once its free slots are taken
   pub left : s .block < fill + m → n < s .blocks
-  pub sound : s .block < fill + m → 1 ≤ n → length (slots (takenUp (bitsIn f n) fill (s .block - fill))) < s .useful → Sound s f n
+  pub sound : s .block < fill + m → 1 ≤ n → length (slots (takenUp (blockBits f n) fill (s .block - fill))) < s .useful → Sound s f n
 
 -- ---- block y has opened, and took the copies of the block before it
 record Rolled (s : Settings) (f : Memory) (y : ℕ) (d : Cursor) (g : Memory) : Type 0 where
@@ -73,7 +73,7 @@ placed-sound {s} {f} {g} {c} p room known i = record {
   moves = λ k h e. is? k (c .fill)
       (λ u. rw u (record { slot = room; tag = rw (p .here) known }))
       (λ u.
-      let stood : stands (bitsIn f (c .opened)) k ≡ true = sym (raised-other (bitsIn f (c .opened)) (c .fill) k u) ∙ ap (λ (b : Standing). stands b k) (sym (p .bits)) ∙ e in
+      let stood : stands (blockBits f (c .opened)) k ≡ true = sym (raised-other (blockBits f (c .opened)) (c .fill) k u) ∙ ap (λ (b : Standing). stands b k) (sym (p .bits)) ∙ e in
       let m = i .moves k h stood in
       record { slot = m .slot; tag = rw (p .slots k u) (m .tag) });
 }
@@ -112,11 +112,11 @@ module _ (s : Settings) (z : Within s) where
       })) (λ d′ g′ i. record { opened = i .opened; fill = omega (arith, i .fill); tags = i .tags }))
 
   judge-full-goes : (c : Cursor) (f : Memory) (x now : ℕ) → c .opened ≡ x + 1 → c .fill ≡ 0 → 1 ≤ x → x < s .blocks → f (Field x rightWord) ≡ x + 1
-      → (length (slots (bitsIn f x)) < s .useful → Sound s f x) → Goes s (judgeFull s c x now) f (Rolled s f (x + 1))
+      → (length (slots (blockBits f x)) < s .useful → Sound s f x) → Goes s (judgeFull s c x now) f (Rolled s f (x + 1))
   unfolding judgeFull
   judge-full-goes c f x now o e low left r i =
       let nx : Numbered s x = record { low = low; high = omega arith } in
-      let l = slots (bitsIn f x) in
+      let l = slots (blockBits f x) in
       goes-standing s z x nx (goes-when
       (λ t.
       let short = ltb-true (length l) (s .useful) t in
@@ -126,7 +126,7 @@ module _ (s : Settings) (z : Within s) where
 
   -- ---- block N + 1 opens, and block N, if any, is judged
   roll-goes : (c : Cursor) (f : Memory) (now : ℕ) → c .opened < s .blocks
-      → (1 ≤ c .opened → length (slots (bitsIn f (c .opened))) < s .useful → Sound s f (c .opened)) → Goes s (roll s c now) f (Rolled s f (c .opened + 1))
+      → (1 ≤ c .opened → length (slots (blockBits f (c .opened))) < s .useful → Sound s f (c .opened)) → Goes s (roll s c now) f (Rolled s f (c .opened + 1))
   unfolding roll
   roll-goes c f now left i =
       let N = c .opened in
@@ -186,8 +186,8 @@ module _ (s : Settings) (z : Within s) where
   put-ready {f} {g} {m} {tag} {c} {d} i low room known p =
       let N = c .opened in
       let more : s .block - c .fill ≡ suc (s .block - (c .fill + 1)) = omega arith in
-      let bits : takenUp (bitsIn g N) (c .fill + 1) (s .block - (c .fill + 1)) ≡ takenUp (bitsIn f N) (c .fill) (s .block - c .fill) =
-      ap (λ (b : Standing). takenUp b (c .fill + 1) (s .block - (c .fill + 1))) (p .bits) ∙ sym (ap (takenUp (bitsIn f N) (c .fill)) more) in
+      let bits : takenUp (blockBits g N) (c .fill + 1) (s .block - (c .fill + 1)) ≡ takenUp (blockBits f N) (c .fill) (s .block - c .fill) =
+      ap (λ (b : Standing). takenUp b (c .fill + 1) (s .block - (c .fill + 1))) (p .bits) ∙ sym (ap (takenUp (blockBits f N) (c .fill)) more) in
       rw (p .opened, p .fill) (record {
         limit = i .limit;
         fits = omega arith;

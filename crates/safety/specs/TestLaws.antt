@@ -19,11 +19,11 @@ use Rattle.layout.specs.Fields.{rightWord, tagWord}
 use Rattle.layout.specs.Memory.{Memory}
 use Rattle.layout.specs.Head.{placed}
 use Rattle.layout.specs.HeadLaws.{SoundHead}
-use Rattle.layout.specs.Standing.{slots, stands, lowered}
+use Rattle.layout.specs.Standing.{slots, stands, lowered, blockBits}
 use Rattle.layout.specs.StandingLaws.{lowered-fewer}
 use Rattle.calls.specs.Placing.{blockOf, slotOf}
 use Rattle.calls.specs.Refusals.{opens, takenUp, acceptorCloses, tagBlock, remaining, closes, copies, afterClear, badPlace, badBlock, unsoundSet, unsoundClear, blocksOut}
-use Rattle.safety.specs.Sound.{bitsIn, Sound, Between, found-sound, found-right}
+use Rattle.safety.specs.Sound.{Sound, Between, found-sound, found-right}
 use Rattle.safety.specs.Parts.{Ended}
 use Rattle.safety.specs.Room.{Ready}
 use Rattle.safety.specs.Leaving.{Clearable, ended-sound}
@@ -53,7 +53,7 @@ module _ (h : Head) (sound : SoundHead h) where
   -- The acceptor is ready for m records in a memory g in which its standing bits are a, those that the test looked at, and in which it is sound if the
   -- words as found say so.
   pub ready-for : {m : ℕ} (f : Memory) (a : Standing) → m ≤ s .useful → blocksOut h m ≡ false
-      → (acceptorCloses h a m && badBlock h f (h .cursor .opened)) ≡ false → {g : Memory} → bitsIn g (h .cursor .opened) ≡ a
+      → (acceptorCloses h a m && badBlock h f (h .cursor .opened)) ≡ false → {g : Memory} → blockBits g (h .cursor .opened) ≡ a
       → (Sound s f (h .cursor .opened) → Sound s g (h .cursor .opened)) → Ready s g m (h .cursor .opened) (h .cursor .fill)
   ready-for {m} f a few out bad {g} bits keeps = record {
     limit = sound .opened;
@@ -71,7 +71,7 @@ module _ (h : Head) (sound : SoundHead h) where
 
   pub set-ready : (f : Memory) → unsoundSet h f ≡ false → blocksOut h 1 ≡ false → Ready s f 1 (h .cursor .opened) (h .cursor .fill)
   unfolding unsoundSet
-  set-ready f bad out = ready-for f (bitsIn f (h .cursor .opened)) (sound .within .some) out bad refl (λ i. i)
+  set-ready f bad out = ready-for f (blockBits f (h .cursor .opened)) (sound .within .some) out bad refl (λ i. i)
 
 -- ---- a place, not 0 and not above the records placed, lies in a block opened
 pub record Lies (h : Head) (p : ℕ) : Type 0 where
@@ -124,11 +124,11 @@ module _ (h : Head) (sound : SoundHead h) (f : Memory) (tag : ℕ) (d : f (Dir t
   not-block : (closes h f n && badBlock h f n) ≡ false
   not-block = or-false (badPlace h f tag) _ (tests .0) .1
 
-  pub good-place : (f (Dir tag) ≤ placed h) × (stands (bitsIn f n) k ≡ true)
+  pub good-place : (f (Dir tag) ≤ placed h) × (stands (blockBits f n) k ≡ true)
   unfolding badPlace
   good-place =
       let e = or-false (badPlace h f tag) _ (tests .0) .0 in
-      let u = or-false _ (not (stands (bitsIn f n) k)) e in
+      let u = or-false _ (not (stands (blockBits f n) k)) e in
       let w = or-false (ltb (placed h) (f (Dir tag))) (not (eqb (f (Slot n k tagWord)) tag)) (u .0) in
       (ltb-false (placed h) (f (Dir tag)) (w .0), not-false _ (u .1))
 
@@ -136,8 +136,8 @@ module _ (h : Head) (sound : SoundHead h) (f : Memory) (tag : ℕ) (d : f (Dir t
   lies = place-lies h (f (Dir tag)) sound (omega arith) (good-place .0)
 
   -- one record fewer stands where the tag's has ended
-  pub fewer : length (slots (lowered (bitsIn f n) k)) ≡ remaining h f n
-  fewer = omega (arith, lowered-fewer (bitsIn f n) k (omega (arith, lies .slot, sound .within .most)) (good-place .1))
+  pub fewer : length (slots (lowered (blockBits f n) k)) ≡ remaining h f n
+  fewer = omega (arith, lowered-fewer (blockBits f n) k (omega (arith, lies .slot, sound .within .most)) (good-place .1))
 
   closes-few : n ≢ N → remaining h f n < q → closes h f n ≡ true
   closes-few apart few = simp (ne-eqb n N apart, lt-ltb (remaining h f n) q few)
@@ -155,7 +155,7 @@ module _ (h : Head) (sound : SoundHead h) (f : Memory) (tag : ℕ) (d : f (Dir t
 
   -- with the tag's record ended the acceptor's bits are those that the test looked at; and with refusal 13 not applying it is ready
   module _ (one : more ≤ 1) (out : blocksOut h (copies h f n + more) ≡ false) (g : Memory) (e : Ended f n k g) where
-    bits-after : bitsIn g N ≡ afterClear h f tag
+    bits-after : blockBits g N ≡ afterClear h f tag
     bits-after = is? n N
         (λ u. simp (eq-eqb n N u) (rw u at (e .here)))
         (λ u. simp (ne-eqb n N u) (e .elsewhere N (λ w. u (sym w))))
@@ -172,7 +172,7 @@ module _ (h : Head) (sound : SoundHead h) (f : Memory) (tag : ℕ) (d : f (Dir t
         let few : remaining h f n < q = subst (λ (m : ℕ). m < q) fewer short in
         let t = closes-few apart few in
         let good = and-rest not-block t in
-        let moved : copies h f n + more ≡ length (slots (bitsIn g n)) + more =
+        let moved : copies h f n + more ≡ length (slots (blockBits g n)) + more =
         ap (λ (y : Bool). cond y (remaining h f n) 0 + more) t ∙ ap (λ (m : ℕ). m + more) (sym fewer ∙ ap (λ (b : Standing). length (slots b)) (sym (e .here))) in
         let right : Between n (g (Field n rightWord)) N = rw (e .fields n rightWord) (found-right h f n good apart) in
         record {

@@ -26,7 +26,7 @@ use Rattle.calls.specs.Calls.{Call, Set, Clear, Update, Advance, Done as DoneWi
 use Rattle.calls.specs.Placing.{setProgram, clearProgram, updateProgram, advanceProgram}
 use Rattle.calls.specs.Refusals.{Test, refusal, timeTests, setOwn, clearOwn, tagBlock}
 use Rattle.calls.specs.Step.{step, testsOf, wordsRead, reply, change, set, clear, update, advance}
-use Rattle.calls.specs.Claims.{AllBut13, Change, Small, Foretold, ForetoldOf, clearCloses}
+use Rattle.calls.specs.Claims.{AllBut13, NotStart, Small, Foretold, ForetoldOf, clearCloses}
 use Rattle.safety.specs.CallSafe.{Next, next-head, advance-goes, set-goes, clear-call-goes, update-goes, advance-over, set-over, clear-over, update-over}
 use Rattle.theory.specs.HeadKept.{HeadMoved, set-head, clear-head, update-head, advance-head}
 use Rattle.theory.specs.Stored.{Stored, Left, stored-run}
@@ -69,7 +69,7 @@ own ws s (cons x₂ (cons x₃ (cons x₄ (cons x₅ (cons x₆ r))))) = r
 pub record Done (ws : List ℕ) (c : Call) : Type 0 where
   pub head-stored : (h : Head) → step ws c .answer ≡ DoneWith h → headOf (step ws c .store) ≡ h
   pub foretold : AllBut13 (testsOf ws c) → ForetoldOf (headOf ws) (wordsRead ws) c
-  pub small : Change c → Small ws (step ws c .store)
+  pub small : NotStart c → Small ws (step ws c .store)
 
 -- ---- a reply by its table: turned away it leaves all words, else the head that it hands back is stored
 module _ (l : List Test) (ws : List ℕ) (h : Head) (after : List ℕ) (k : numbered l ≡ true) where

@@ -8,7 +8,7 @@ use Prim.Native.Nat.{ℕ, _+_, _≤_, _<_}
 use native.Mathlib.Omega.{arith}
 use lib.Dec.{ltb, leb}
 use lib.ListN.{length, getD}
-use Rattle.base.specs.Sums.{is, over}
+use Rattle.base.specs.Sums.{is, sumTo}
 use Rattle.layout.specs.declared.settings.Settings.{Settings}
 use Rattle.layout.specs.declared.head.Cursor.{Cursor}
 use Rattle.layout.specs.declared.address.Address.the-variants.{Dir, Field}
@@ -17,9 +17,8 @@ use Rattle.layout.specs.Fields.{openedWord, closedWord}
 use Rattle.layout.specs.Memory.{Memory}
 use Rattle.layout.specs.Program.{runOn}
 use Rattle.layout.specs.Cursor.{storeCursor}
-use Rattle.layout.specs.Head.{placed}
+use Rattle.layout.specs.Head.{placed, freshHead}
 use Rattle.calls.specs.Placing.{place, clearTag, finish, setProgram, clearProgram, updateProgram, advanceProgram}
-use Rattle.calls.specs.Step.{freshHead}
 use Rattle.calls.specs.Book.{Block, Book, emptyBook, bookSet, bookClear, bookUpdate, recordsIn, openings, closings, openAt}
 use Rattle.theory.specs.Effects.{view, closed-word}
 use Rattle.theory.specs.Timeline.{Timeline}
@@ -103,5 +102,5 @@ module _ {s : Settings} {k : Book} {c : Cursor} {f : Memory} (b : Booked s k c f
   unfolding placed
   booked-records = sym (book-records (s .block) (shape c f)) ∙ ap (λ (y : Book). recordsIn (y .blocks)) (b .is-book)
 
-  pub booked-open-at : (t : ℕ) → openAt t (k .blocks) ≡ over (c .opened) (λ n. is (leb (view c f .opened n) t && ltb t (view c f .closed n)))
+  pub booked-open-at : (t : ℕ) → openAt t (k .blocks) ≡ sumTo (c .opened) (λ n. is (leb (view c f .opened n) t && ltb t (view c f .closed n)))
   booked-open-at t = ap (λ (y : Book). openAt t (y .blocks)) (sym (b .is-book)) ∙ book-open-at (s .block) (shape c f) t

@@ -9,8 +9,8 @@ use lib.Dec.{eqb, ltb, leb}
 use lib.ListN.{length, getD}
 use borrow.Author.Tests.{eqb-true, eqb-false, eq-eqb}
 use Rattle.base.specs.Branch.{by-test, cond-all, and-true, and-is}
-use Rattle.base.specs.Places.{Lists, none, more}
-use Rattle.base.specs.Sums.{is, over}
+use Rattle.base.specs.Ones.{Lists, none, more}
+use Rattle.base.specs.Sums.{is, sumTo}
 use Rattle.layout.specs.Sizes.{OPEN}
 use Rattle.calls.specs.Book.{standingTags, entriesOf, lastOf, holds, holderOf, recordsIn, openings, closings, openAt}
 use Rattle.theory.specs.Marks.{Pending, no-more, one-more}
@@ -57,7 +57,7 @@ module _ (b : ℕ) (S : Shape) where
   pub book-closed : (i : ℕ) → i < S .opened → getD (closings (blocksOf b S)) i 0 ≡ S .view .closed (i + 1)
   book-closed i h = closing-table (S .opened) i (λ j. blockAt b S (j + 1)) h
 
-  pub book-open-at : (t : ℕ) → openAt t (blocksOf b S) ≡ over (S .opened) (λ n. is (leb (S .view .opened n) t && ltb t (S .view .closed n)))
+  pub book-open-at : (t : ℕ) → openAt t (blocksOf b S) ≡ sumTo (S .opened) (λ n. is (leb (S .view .opened n) t && ltb t (S .view .closed n)))
   book-open-at t = open-table (S .opened) t (λ i. blockAt b S (i + 1)) (S .view .opened) (S .view .closed) (λ i h. refl) (λ i h. refl)
 
   -- ---- tags

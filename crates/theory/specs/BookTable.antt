@@ -12,8 +12,8 @@ use lib.Dec.{eqb, ltb, leb}
 use lib.ListN.{length, getD}
 use borrow.Author.Tests.{eq-eqb}
 use Rattle.base.specs.Branch.{cond-rel, is?}
-use Rattle.base.specs.Places.{Lists, none, more}
-use Rattle.base.specs.Sums.{is, over}
+use Rattle.base.specs.Ones.{Lists, none, more}
+use Rattle.base.specs.Sums.{is, sumTo}
 use Rattle.layout.specs.Sizes.{OPEN}
 use Rattle.calls.specs.Book.{Entry, Block, standingTags, ended, opensAt, onBlock, entriesOf, lastOf, appends, holds, holderOf, endsTag, recordsIn}
 use Rattle.calls.specs.Book.{openings, closings, openAt}
@@ -206,8 +206,8 @@ open-append t (x ∷ l) k =
 
 -- the blocks open at t, counted from 1 by their seconds
 pub open-table : (n t : ℕ) (p : ℕ → Block) (opened closed : ℕ → ℕ) → ((i : ℕ) → i < n → p i .opened ≡ opened (i + 1))
-    → ((i : ℕ) → i < n → p i .closed ≡ closed (i + 1)) → openAt t (tabulate n p) ≡ over n (λ m. is (leb (opened m) t && ltb t (closed m)))
-unfolding tabulate over
+    → ((i : ℕ) → i < n → p i .closed ≡ closed (i + 1)) → openAt t (tabulate n p) ≡ sumTo n (λ m. is (leb (opened m) t && ltb t (closed m)))
+unfolding tabulate sumTo
 open-table zero t p opened closed o c = refl
 open-table (suc n) t p opened closed o c =
     let e : p n .opened ≡ opened (suc n) = o n (omega arith) ∙ ap opened (add-one n) in

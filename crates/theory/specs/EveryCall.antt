@@ -14,7 +14,7 @@ use Rattle.layout.specs.declared.head.Cursor.{Cursor}
 use Rattle.layout.specs.declared.head.Head.{Head}
 use Rattle.layout.specs.Sizes.{headLen, layoutLen}
 use Rattle.layout.specs.SettingsLaws.{limits-within}
-use Rattle.layout.specs.Head.{headOf, withHead, cleared}
+use Rattle.layout.specs.Head.{headOf, withHead, cleared, freshHead}
 use Rattle.layout.specs.Program.{Prog}
 use Rattle.layout.specs.ProgramLaws.{run-length}
 use Rattle.layout.specs.OnWords.{over}
@@ -22,7 +22,7 @@ use Rattle.calls.specs.Calls.{Call, Start, Set, Clear, Update, Advance, Ask, An
 use Rattle.calls.specs.Placing.{setProgram, clearProgram, updateProgram, advanceProgram}
 use Rattle.calls.specs.Refusals.{Test, refusal}
 use Rattle.calls.specs.Claims.{First, EveryCall, NoView, KindOf, lentBy, zeroed}
-use Rattle.calls.specs.Step.{step, testsOf, reply, change, set, clear, update, advance, start, freshHead}
+use Rattle.calls.specs.Step.{step, testsOf, reply, change, set, clear, update, advance, start}
 use Rattle.theory.specs.Started.{started, started-length}
 use Rattle.theory.specs.TestLaws.{numbered, Decided, free, turned, refused, clash}
 use Rattle.theory.specs.AnyChange.{Done as DoneOn, reply-head, advance-done, set-done, clear-done, update-done}

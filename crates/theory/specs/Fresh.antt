@@ -11,8 +11,7 @@ use Rattle.layout.specs.declared.address.Address.the-variants.{Head, Time, Dir,
 use Rattle.layout.specs.Fields.{toWord}
 use Rattle.layout.specs.Settings.{Within}
 use Rattle.layout.specs.Memory.{Memory}
-use Rattle.layout.specs.Head.{headWords}
-use Rattle.calls.specs.Step.{freshHead}
+use Rattle.layout.specs.Head.{headWords, freshHead}
 use Rattle.theory.specs.Reading.{none}
 use Rattle.theory.specs.State.{shape, NoneDue}
 use Rattle.theory.specs.Rolling.{Full}

@@ -18,7 +18,7 @@ use Rattle.layout.specs.Address.{Valid}
 use Rattle.layout.specs.Interp.{Same}
 use Rattle.layout.specs.Memory.{Memory}
 use Rattle.layout.specs.SettingsLaws.{limits-within}
-use Rattle.layout.specs.Head.{headOf, withHead, cleared}
+use Rattle.layout.specs.Head.{headOf, withHead, cleared, freshHead}
 use Rattle.layout.specs.HeadLaws.{SoundHead}
 use Rattle.layout.specs.Program.{Prog, run, runOn}
 use Rattle.layout.specs.ProgramLaws.{Safe}
@@ -26,7 +26,7 @@ use Rattle.layout.specs.OnWords.{over}
 use Rattle.calls.specs.Calls.{Call, Start, Set, Clear, Update, Advance, Ask, Answer, Done, Shown, Refused, accepted}
 use Rattle.calls.specs.Placing.{setProgram, clearProgram, updateProgram, advanceProgram}
 use Rattle.calls.specs.Refusals.{Test, timeTests, setOwn, clearOwn, tagBlock, copies, blocksOut}
-use Rattle.calls.specs.Step.{step, testsOf, start, set, clear, update, advance, wordsRead, freshHead}
+use Rattle.calls.specs.Step.{step, testsOf, start, set, clear, update, advance, wordsRead}
 use Rattle.calls.specs.Book.{Book}
 use Rattle.calls.specs.Log.{Log}
 use Rattle.calls.specs.History.{Account, opening, enters}

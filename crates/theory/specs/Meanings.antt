@@ -20,12 +20,11 @@ use Rattle.layout.specs.Fields.{tagWord, fromWord, toWord}
 use Rattle.layout.specs.Address.{Numbered}
 use Rattle.layout.specs.Memory.{Memory}
 use Rattle.layout.specs.Head.{headOf}
-use Rattle.layout.specs.Standing.{stands}
+use Rattle.layout.specs.Standing.{stands, blockBits}
 use Rattle.layout.specs.Parts.{slotWord}
 use Rattle.calls.specs.Calls.{Row}
 use Rattle.calls.specs.Placing.{placeOf}
 use Rattle.calls.specs.Walk.{rowOf}
-use Rattle.calls.specs.Refusals.{bitsOf}
 use Rattle.calls.specs.Step.{wordsRead}
 use Rattle.calls.specs.History.{Account}
 use Rattle.calls.specs.Claims.{AnyBlock, StandsAt, Means}
@@ -74,7 +73,7 @@ module _ {ws : List ℕ} {a : Account} (i : Honest ws a) where
   numbered : (n : ℕ) → 1 ≤ n → n ≤ c .opened → Numbered s n
   numbered n l h = record { low = l; high = omega (arith, i .rest .limit) }
 
-  bits-are : (n : ℕ) → 1 ≤ n → n ≤ c .opened → bitsOf (headOf ws) (wordsRead ws) n ≡ record { low = f (Bits n 0); high = f (Bits n 1) }
+  bits-are : (n : ℕ) → 1 ≤ n → n ≤ c .opened → blockBits (wordsRead ws) n ≡ record { low = f (Bits n 0); high = f (Bits n 1) }
   bits-are n l h = λ j. record {
     low = word-is i (Bits n 0) (numbered n l h, omega arith) j;
     high = word-is i (Bits n 1) (numbered n l h, omega arith) j;
@@ -90,7 +89,7 @@ module _ {ws : List ℕ} {a : Account} (i : Honest ws a) where
   slot-is : (n k j : ℕ) → 1 ≤ n → n ≤ c .opened → k < s .block → j < 4 → wordsRead ws (Slot n k j) ≡ f (Slot n k j)
   slot-is n k j l h q w = word-is i (Slot n k j) (numbered n l h, q, w)
 
-  bit-iff : (n k : ℕ) → 1 ≤ n → n ≤ c .opened → k < s .block → (stands (bitsOf (headOf ws) (wordsRead ws) n) k ≡ true) ↔ (wordsRead ws (Slot n k toWord) ≡ OPEN)
+  bit-iff : (n k : ℕ) → 1 ≤ n → n ≤ c .opened → k < s .block → (stands (blockBits (wordsRead ws) n) k ≡ true) ↔ (wordsRead ws (Slot n k toWord) ≡ OPEN)
   bit-iff n k l h q =
       let m = i .rest .full .state .marked in
       let low : k < 64 = omega (arith, i .rest .full .within .most) in

@@ -16,8 +16,8 @@ use Rattle.layout.specs.Settings.{Within}
 use Rattle.layout.specs.Memory.{Memory}
 use Rattle.layout.specs.Program.{runOn}
 use Rattle.layout.specs.Cursor.{storeCursor}
+use Rattle.layout.specs.Head.{freshHead}
 use Rattle.calls.specs.Placing.{place, clearTag, finish, setProgram, clearProgram, updateProgram, advanceProgram}
-use Rattle.calls.specs.Step.{freshHead}
 use Rattle.safety.specs.CallSafe.{Next}
 use Rattle.theory.specs.Reading.{none, some, logged}
 use Rattle.theory.specs.Timeline.{Timeline}

@@ -11,7 +11,7 @@ use native.Mathlib.Nat.{mul-le-mul-right, add-mul}
 use lib.Dec.{eqb, ltb, leb}
 use borrow.Author.Tests.{eqb-false, eq-eqb, ne-eqb, lt-ltb, le-ltb, lt-leb, le-leb}
 use Rattle.base.specs.Branch.{is?, lt?, by-test}
-use Rattle.base.specs.Places.{Lists, none, more}
+use Rattle.base.specs.Ones.{Lists, none, more}
 use Rattle.base.specs.Slots.{bitOf, slots-of}
 use Rattle.layout.specs.declared.settings.Settings.{Settings}
 use Rattle.layout.specs.declared.head.Cursor.{Cursor}
@@ -23,9 +23,9 @@ use Rattle.layout.specs.Memory.{Memory}
 use Rattle.layout.specs.Interp.{Same}
 use Rattle.layout.specs.Head.{placed}
 use Rattle.layout.specs.declared.standing.Standing.{Standing}
-use Rattle.layout.specs.Standing.{stands}
+use Rattle.layout.specs.Standing.{stands, blockBits}
 use Rattle.calls.specs.Placing.{placeOf, blockOf, slotOf}
-use Rattle.calls.specs.Refusals.{opens, acceptorCloses, anyOf, bitsOf, tagBlock, closes, copies, afterClear}
+use Rattle.calls.specs.Refusals.{opens, acceptorCloses, anyOf, tagBlock, closes, copies, afterClear}
 use Rattle.calls.specs.Refusals.{badPlace, badBlock, unsoundSet, unsoundClear}
 use Rattle.theory.specs.Timeline.{Timeline}
 use Rattle.theory.specs.Effects.{view}
@@ -94,7 +94,7 @@ module _ {s : Settings} {log : Timeline} (c : Cursor) (f : Memory) (i : Rest s l
 
   pub set-sound : unsoundSet (headWith s c) g ≡ false
   unfolding unsoundSet
-  set-sound = acceptor-sound (bitsOf (headWith s c) g (c .opened)) 1
+  set-sound = acceptor-sound (blockBits g (c .opened)) 1
 
   -- ---- a place that the directory has
   module _ (tag : ℕ) (known : tag < s .tags) (d : f (Dir tag) ≢ 0) where
@@ -126,7 +126,7 @@ module _ {s : Settings} {log : Timeline} (c : Cursor) (f : Memory) (i : Rest s l
         let tagged : eqb (g (Slot n k tagWord)) tag ≡ true =
         eq-eqb (g (Slot n k tagWord)) tag (same .at (Slot n k tagWord) (nn, p .slot, omega arith) ∙ w .tagged) in
         let marked = stands-is (marksOf f n) k (omega (arith, p .slot, i .full .within .most)) (st .marked .marks n k (w .unended)) in
-        let bit : stands (bitsOf (headWith s c) g n) k ≡ true = rw (same-bits n 0 nn (omega arith), same-bits n 1 nn (omega arith)) marked in
+        let bit : stands (blockBits g n) k ≡ true = rw (same-bits n 0 nn (omega arith), same-bits n 1 nn (omega arith)) marked in
         rw same-place (or-no (or-no (le-ltb (placed (headWith s c)) (f (Dir tag)) (place-low n k e (p .low) (p .high) (p .slot) (p .last)))
         (rw tagged)) (rw bit))
 

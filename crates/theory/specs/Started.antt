@@ -13,11 +13,10 @@ use Rattle.layout.specs.Sizes.{mark, headLen, layoutLen}
 use Rattle.layout.specs.Address.{offset, Valid}
 use Rattle.layout.specs.AddressLaws.{offset-below}
 use Rattle.layout.specs.Settings.{Within}
-use Rattle.layout.specs.Head.{headOf, headWords, withHead, cleared, spareZero}
+use Rattle.layout.specs.Head.{headOf, headWords, withHead, cleared, spareZero, freshHead}
 use Rattle.layout.specs.Fields.{headMark}
 use Rattle.layout.specs.Words.{readWord}
 use Rattle.layout.specs.OverLaws.{over-read, over-good, may-valid}
-use Rattle.calls.specs.Step.{freshHead}
 use Rattle.theory.specs.Fresh.{freshMemory}
 use Rattle.theory.specs.Stored.{Stored}
 

@@ -4,7 +4,7 @@ use mathlib.Core.List.{List, [], _∷_, map}
 use Prim.Native.Nat.{ℕ, zero, suc, _≤_, _<_}
 use native.Mathlib.Omega.{arith}
 use Rattle.base.specs.Branch.{lt?}
-use Rattle.base.specs.Sums.{total, totals, upto, upto-suc, over}
+use Rattle.base.specs.Sums.{total, totals, upto, upto-suc, sumTo}
 
 -- The weight of a member's image.
 pub total-map : {A B : Type 0} (w : B → ℕ) (f : A → B) (l : List A) → total w (map f l) ≡ total (λ x. w (f x)) l
@@ -12,10 +12,10 @@ total-map w f [] = simp totals
 total-map w f (x ∷ l) = simp totals (omega (arith, total-map w f l))
 
 -- From 1 to n is below n, one up.
-pub over-below : (w : ℕ → ℕ) (n : ℕ) → over n w ≡ upto (λ k. w (suc k)) n
-unfolding over upto
-over-below w zero = refl
-over-below w (suc n) = omega (arith, over-below w n)
+pub sumTo-below : (w : ℕ → ℕ) (n : ℕ) → sumTo n w ≡ upto (λ k. w (suc k)) n
+unfolding sumTo upto
+sumTo-below w zero = refl
+sumTo-below w (suc n) = omega (arith, sumTo-below w n)
 
 -- More numbers have no smaller sum.
 pub upto-grows : (w : ℕ → ℕ) (a b : ℕ) → a ≤ b → upto w a ≤ upto w b

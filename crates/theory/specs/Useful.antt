@@ -7,7 +7,7 @@ use native.Mathlib.Omega.{arith}
 use native.Mathlib.Nat.{le-of-suc-le-suc}
 use lib.ListN.{length}
 use Rattle.base.specs.Branch.{is?, lt?}
-use Rattle.base.specs.Places.{Lists, none, more}
+use Rattle.base.specs.Ones.{Lists, none, more}
 use Rattle.base.specs.Slots.{slotsOf, slots-of}
 use Rattle.layout.specs.declared.settings.Settings.{Settings}
 use Rattle.layout.specs.Sizes.{OPEN}
