@@ -2,13 +2,22 @@
 use mathlib.Core.Path.{_≡_, refl, sym, ap, ap₂, _∙_}
 use mathlib.Core.Bool.{Bool, true, false}
 use mathlib.Core.List.{List, [], _∷_}
-use Prim.Native.Nat.{ℕ}
+use Prim.Native.Nat.{ℕ, _<_}
+use native.Mathlib.Omega.{arith}
+use lib.Dec.{eqb, ltb}
 use lib.Seq.{sets}
+use borrow.Author.Tests.{ne-eqb, ltb-true}
+use Rattle.base.specs.Branch.{and-true}
 use Rattle.layout.specs.declared.settings.Settings.{Settings}
 use Rattle.layout.specs.Settings.{inLimits, Within}
 use Rattle.layout.specs.SettingsLaws.{limits-within, StoreLong}
-use Rattle.calls.specs.Calls.{Answer, Reply}
+use Rattle.calls.specs.Calls.{LookBack, Call, Start, Set, Clear, Update, Advance, Ask, Answer, Done, Shown, Refused, Reply, accepted}
+use Rattle.calls.specs.Refusals.{Test}
 use Rattle.calls.specs.LookBack.{lookBack}
+use Rattle.calls.specs.Step.{step, testsOf}
+use Rattle.calls.specs.Claims.{First, here, later}
+use Rattle.theory.specs.TestLaws.{numbered}
+use Rattle.theory.specs.EveryLookBack.{every-call}
 use Rattle.changes.specs.declared.Change.{Change}
 use Rattle.changes.specs.Replied.{Replied, answerOf}
 use Rattle.timeslice.specs.declared.Slice.{Slice}
@@ -20,6 +29,27 @@ use Rattle.register.specs.Exports.{numberOf, sixWords, sixAfter, Exporte
 -- ---- a start, change or clock move
 pub exported : {r : Reply} {c : Change} {n : ℕ} {words : List ℕ} → Replied r c words → n ≡ numberOf (answerOf c) → Exported r n words
 exported e f = record { number = f ∙ ap numberOf (e .answer); store = e .store }
+
+-- ---- A CALLER IS TOLD 0 EXACTLY IF THE CALL WAS ACCEPTED, on any words: no refusal has the number 0
+tests-numbered : (ws : List ℕ) (c : Call) → numbered (testsOf ws c) ≡ true
+tests-numbered ws (Start s) = refl
+tests-numbered ws (Set s tag reading) = refl
+tests-numbered ws (Clear s tag) = refl
+tests-numbered ws (Update s tag reading) = refl
+tests-numbered ws (Advance s) = refl
+tests-numbered ws (Ask (LookBack t rows list)) = refl
+
+first-above : {l : List Test} {n : ℕ} → numbered l ≡ true → First l n → 0 < n
+first-above k (here {x} {l} e) = ltb-true 0 (x .number) (and-true (ltb 0 (x .number)) (numbered l) k .0)
+first-above k (later {x} {l} e f) = first-above (and-true (ltb 0 (x .number)) (numbered l) k .1) f
+
+zero-accepted : (a : Answer) → ((n : ℕ) → a ≡ Refused n → 0 < n) → eqb (numberOf a) 0 ≡ accepted a
+zero-accepted (Done h) k = refl
+zero-accepted (Shown v) k = refl
+zero-accepted (Refused n) k = ne-eqb n 0 (λ e. omega (arith, k n refl, e))
+
+pub told-zero : (ws : List ℕ) (c : Call) → eqb (numberOf (step ws c .answer)) 0 ≡ accepted (step ws c .answer)
+told-zero ws c = zero-accepted (step ws c .answer) (λ n e. first-above (tests-numbered ws c) (every-call ws c .refused-first n e))
 
 -- ---- a look-back: refused, or answered with six words
 module _ {ws rows list rows′ list′ : List ℕ} {t : ℕ} {l : Looked} (b : LookedBack ws t rows list l rows′ list′) (six : List ℕ) where

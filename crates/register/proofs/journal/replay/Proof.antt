@@ -3,10 +3,10 @@ use borrow.Author.Needs.{needs}
 use Prim.Native.Nat.{_-_}
 use native.Mathlib.Omega.{arith}
 use lib.ListN.{length}
-use Rattle.applying.specs.JournalLaws.{Going, going, at-next, at-other, at-end}
-use Rattle.applying.specs.Rebuilt.{rebuilt}
-use Rattle.applying.proofs.journal.replay.Statement.{statement}
-use Rattle.applying.proofs.journal.replay.Tie as tie
+use Rattle.register.specs.JournalLaws.{Going, going, at-next, at-other, at-end}
+use Rattle.register.specs.Rebuilt.{rebuilt}
+use Rattle.register.proofs.journal.replay.Statement.{statement}
+use Rattle.register.proofs.journal.replay.Tie as tie
 
 abbrev Inv-loop : tie.InvT-loop
 Inv-loop store₀ journal at₀ entries₀ accepted₀ store at entries accepted = Going store₀ journal store at entries accepted

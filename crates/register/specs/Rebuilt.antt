@@ -10,7 +10,7 @@ use Rattle.calls.specs.Step.{step}
 use Rattle.calls.specs.History.{wordsAfter, trace, opening, account}
 use Rattle.calls.specs.Claims.{Holds}
 use Rattle.theory.specs.Whole.{whole-list}
-use Rattle.applying.specs.Journal.{journalOf}
+use Rattle.register.specs.Journal.{journalOf}
 
 -- `ws` is a store of any length as an accepted start left it
 pub record Fresh (ws : List ℕ) (s : Settings) : Type 0 where

@@ -11,11 +11,9 @@ use Rattle.layout.specs.Settings.{settingsOf}
 use Rattle.calls.specs.Calls.{Call, Start, Set, Clear, Update, Advance, accepted}
 use Rattle.calls.specs.Step.{step}
 use Rattle.calls.specs.History.{Heard, wordsAfter, trace}
-use Rattle.changes.specs.declared.Change.{Change}
-use Rattle.changes.specs.declared.Change.the-variants as change
-use Rattle.applying.specs.declared.journal.Tally.{Tally}
-use Rattle.applying.specs.declared.journal.Played.{Played}
-use Rattle.applying.specs.declared.journal.Played.the-variants.{Counts, Ends}
+use Rattle.register.specs.declared.journal.Tally.{Tally}
+use Rattle.register.specs.declared.journal.Played.{Played}
+use Rattle.register.specs.declared.journal.Played.the-variants.{Counts, Ends}
 
 -- an entry: a change, or none that is known
 pub data Entry : Type 0 where
@@ -57,9 +55,8 @@ pub record Replayed (ws journal : List ℕ) (r : Tally) (ws′ : List ℕ) : Typ
   pub accepted : r .accepted ≡ acceptedIn (trace ws (journalOf journal))
 
 -- ---- the parts: one entry
-abbrev pub countsAs : Change → Played
-countsAs (change.Done h) = Counts 1
-countsAs (change.Refused n) = Counts 0
+abbrev pub countsAs : ℕ → Played
+countsAs number = Counts (is (eqb number 0))
 
 -- the entry that begins at a place
 abbrev pub entryAt : List ℕ → ℕ → Entry

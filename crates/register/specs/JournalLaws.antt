@@ -11,23 +11,18 @@ use Rattle.base.specs.Sums.{is, is-small}
 use Rattle.calls.specs.Calls.{Call, accepted}
 use Rattle.calls.specs.Step.{step}
 use Rattle.calls.specs.History.{wordsAfter, trace}
-use Rattle.changes.specs.declared.Change.{Change}
-use Rattle.changes.specs.declared.Change.the-variants as change
-use Rattle.changes.specs.Replied.{Replied, answerOf}
 use Rattle.theory.specs.EveryLookBack.{every-call}
-use Rattle.applying.specs.declared.journal.Played.{Played}
-use Rattle.applying.specs.declared.journal.Played.the-variants.{Counts, Ends}
-use Rattle.applying.specs.Journal.{Entry, says, nothing, entryOf, entryAt, before, journalOf, acceptedIn, Replayed, countsAs, playing, afterEntry, Plays}
+use Rattle.register.specs.declared.journal.Played.{Played}
+use Rattle.register.specs.declared.journal.Played.the-variants.{Counts, Ends}
+use Rattle.register.specs.Exports.{Exported}
+use Rattle.register.specs.ExportLaws.{told-zero}
+use Rattle.register.specs.Journal.{Entry, says, nothing, entryOf, entryAt, before, journalOf, acceptedIn, Replayed, countsAs, playing, afterEntry, Plays}
 
 -- ---- one entry
-counts-answer : (c : Change) → countsAs c ≡ Counts (is (accepted (answerOf c)))
-counts-answer (change.Done h) = refl
-counts-answer (change.Refused n) = refl
-
-pub entered : {ws : List ℕ} {e : Entry} (call : Call) {c : Change} {r : Played} {words : List ℕ} → e ≡ says call → Replied (step ws call) c words
-    → r ≡ countsAs c → Plays ws e r words
-entered {ws} call {c} f p q = record {
-  counted = q ∙ counts-answer c ∙ ap (λ a. Counts (is (accepted a))) (p .answer) ∙ ap (playing ws) (sym f);
+pub entered : {ws : List ℕ} {e : Entry} {call : Call} {n : ℕ} {r : Played} {words : List ℕ} → e ≡ says call → Exported (step ws call) n words
+    → r ≡ countsAs n → Plays ws e r words
+entered {ws} {call = call} f p q = record {
+  counted = q ∙ ap countsAs (p .number) ∙ ap (λ t. Counts (is t)) (told-zero ws call) ∙ ap (playing ws) (sym f);
   store = p .store ∙ ap (afterEntry ws) (sym f);
 }
 

@@ -1,12 +1,10 @@
 // A JOURNAL OF CHANGES, from which a store is rebuilt. Six words an entry: its kind and five numbers, of which a kind uses the first ones.
 // An entry of no kind ends the journal (0 is none, so that a zeroed tail is no entry), and so does one that is cut short.
-use changes::Change;
-use layout::settings::Settings;
 ghost use mathlib.Core.Path.{_≡_};
 ghost use Prim.Native.Nat.{_+_, _≤_};
 ghost use lib.ListN.{length};
-ghost use Rattle.applying.specs.Journal.{entryOf, entryAt, countsAs, Plays, Replayed};
-ghost use Rattle.applying.specs.Rebuilt.{Rebuilt};
+ghost use Rattle.register.specs.Journal.{entryOf, entryAt, countsAs, Plays, Replayed};
+ghost use Rattle.register.specs.Rebuilt.{Rebuilt};
 
 const ENTRY: usize = 6;
 
@@ -37,33 +35,34 @@ enum Played {
     Ends,
 }
 
-fn counts(c: Change) -> Played
-    ensures { λ r. ⌜ r ≡ countsAs c ⌝ }
+// By the number that the call answered: 0 says that it was accepted.
+fn counts(number: u32) -> Played
+    ensures { λ r. ⌜ r ≡ countsAs number ⌝ }
 {
-    match c {
-        Change::Done(_) => Played::Counts(1),
-        Change::Refused(_) => Played::Counts(0),
+    if number == 0 {
+        return Played::Counts(1);
     }
+    Played::Counts(0)
 }
 
-// One entry.
+// One entry, by the exported calls: a change that had another caller beside its export would no longer be compiled into it.
 fn play(store: &mut [u32], kind: u32, a: u32, b: u32, c: u32, d: u32) -> Played
     ensures { λ r. ⌜ Plays (now (store .entry)) (entryOf kind a b c d) r (now (store .exit)) ⌝ }
 {
     if kind == START {
-        return counts(changes::start(store, Settings::asked(a, b, c, d)));
+        return counts(crate::register_start(store, a, b, c, d));
     }
     if kind == SET {
-        return counts(changes::set(store, a, b, c));
+        return counts(crate::register_set(store, a, b, c));
     }
     if kind == CLEAR {
-        return counts(changes::clear(store, a, b));
+        return counts(crate::register_clear(store, a, b));
     }
     if kind == UPDATE {
-        return counts(changes::update(store, a, b, c));
+        return counts(crate::register_update(store, a, b, c));
     }
     if kind == ADVANCE {
-        return counts(changes::advance(store, a));
+        return counts(crate::register_advance(store, a));
     }
     Played::Ends
 }
