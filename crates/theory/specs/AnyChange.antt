@@ -19,15 +19,15 @@ use Rattle.layout.specs.Memory.{Memory}
 use Rattle.layout.specs.Head.{headOf, headAnswer}
 use Rattle.layout.specs.HeadLaws.{head-read}
 use Rattle.layout.specs.Program.{Prog, run, runOn}
-use Rattle.layout.specs.ProgramLaws.{Safe}
 use Rattle.layout.specs.OnWords.{over}
-use Rattle.layout.specs.OverLaws.{over-good}
+use Rattle.layout.specs.OverLaws.{over-good, over-safe}
 use Rattle.calls.specs.Calls.{Call, Set, Clear, Update, Advance, Done as DoneWith, Refused, Reply}
 use Rattle.calls.specs.Placing.{setProgram, clearProgram, updateProgram, advanceProgram}
 use Rattle.calls.specs.Refusals.{Test, refusal, timeTests, setOwn, clearOwn, tagBlock}
 use Rattle.calls.specs.Step.{step, testsOf, wordsRead, reply, change, set, clear, update, advance}
 use Rattle.calls.specs.Claims.{AllBut13, NotStart, Small, Foretold, ForetoldOf, clearCloses}
-use Rattle.safety.specs.CallSafe.{Next, next-head, advance-goes, set-goes, clear-call-goes, update-goes, advance-over, set-over, clear-over, update-over}
+use Rattle.safety.specs.Goes.{Goes}
+use Rattle.safety.specs.CallSafe.{Next, next-head, advance-goes, set-goes, clear-call-goes, update-goes}
 use Rattle.theory.specs.HeadKept.{HeadMoved, set-head, clear-head, update-head, advance-head}
 use Rattle.theory.specs.Stored.{Stored, Left, stored-run}
 use Rattle.theory.specs.Foretelling.{advance-foretold, set-foretold, clear-foretold, update-foretold}
@@ -101,9 +101,9 @@ module _ (ws : List ℕ) (s : ℕ) where
   f = wordsRead ws
 
   -- what a run leaves, where each address is the layout's and the cursor is within its bounds
-  left-by : (p : Prog Cursor) → Ready ws s → Safe (over (h .settings)) p f → Next (h .settings) s ((runOn p f) .0)
-      → HeadMoved ((runOn p f) .0) f ((runOn p f) .1) → Left (h .settings) p ws f
-  left-by p i safe next moved = stored-run p (i .stored) safe moved (next-head (i .stored .read .sound .within) (i .ends) next)
+  left-by : (p : Prog Cursor) → Ready ws s → Goes (h .settings) p f (λ d g. Next (h .settings) s d) → HeadMoved ((runOn p f) .0) f ((runOn p f) .1) → Left (h .settings) p ws f
+  left-by p i goes moved =
+      stored-run p (i .stored) (over-safe (h .settings) p f (goes .safe)) moved (next-head (i .stored .read .sound .within) (i .ends) (goes .leaves))
 
   head-of-ran : (p : Prog Cursor) → Left (h .settings) p ws f → let ran = run (over (h .settings)) p ws in headOf (ran .1) ≡ record { settings = h .settings; cursor = ran .0 }
   head-of-ran p left = sym (left .store .read .is) ∙ ap (λ (d : Cursor). record { settings = h .settings; cursor = d }) (sym (left .answer))
@@ -128,7 +128,7 @@ module _ (ws : List ℕ) (s : ℕ) where
   advance-left a =
       let i = ready ws s (all-but a) .0 in
       let sound = i .stored .read .sound in
-      left-by _ i (advance-over sound f s) (advance-goes sound f s .leaves) (advance-head (h .settings) (h .cursor) s f)
+      left-by _ i (advance-goes sound f s) (advance-head (h .settings) (h .cursor) s f)
 
   advance-told : AllBut13 (testsOf ws (Advance s)) → ForetoldOf h f (Advance s)
   advance-told a = advance-foretold h (ready ws s a .0 .stored .read .sound) f s
@@ -145,7 +145,7 @@ module _ (ws : List ℕ) (s : ℕ) where
     set-left reading i (cons x₈ (cons x₉ (cons x₁₂ (cons x₁₃ nil)))) =
         let sound = i .stored .read .sound in
         let known : tag < h .settings .tags = leb-false (h .settings .tags) tag x₈ in
-        left-by _ i (set-over sound f s tag known reading x₁₂ x₁₃) (set-goes sound f s tag known reading x₁₂ x₁₃ .leaves) (set-head (h .settings) (h .cursor) s f tag reading)
+        left-by _ i (set-goes sound f s tag known reading x₁₂ x₁₃) (set-head (h .settings) (h .cursor) s f tag reading)
 
     set-told : (reading : ℕ) → AllBut13 (testsOf ws (Set s tag reading)) → ForetoldOf h f (Set s tag reading)
     set-told reading a = set-foretold h (ready ws s a .0 .stored .read .sound) f s tag reading
@@ -166,7 +166,7 @@ module _ (ws : List ℕ) (s : ℕ) where
         let sound = i .stored .read .sound in
         let known : tag < h .settings .tags = leb-false (h .settings .tags) tag x₈ in
         let d = eqb-false (f (Dir tag)) 0 x₁₀ in
-        left-by _ i (clear-over sound f s tag known d x₁₂ x₁₃) (clear-call-goes sound f s tag known d x₁₂ x₁₃ .leaves) (clear-head (h .settings) (h .cursor) s f tag)
+        left-by _ i (clear-call-goes sound f s tag known d x₁₂ x₁₃) (clear-head (h .settings) (h .cursor) s f tag)
 
     clear-told : Ready ws s → AllBut13 (clearOwn 0 h f tag) → ForetoldOf h f (Clear s tag)
     clear-told i (cons x₈ (cons x₁₀ (cons x₁₂ (cons x₁₃ nil)))) =
@@ -186,8 +186,7 @@ module _ (ws : List ℕ) (s : ℕ) where
         let sound = i .stored .read .sound in
         let known : tag < h .settings .tags = leb-false (h .settings .tags) tag x₈ in
         let d = eqb-false (f (Dir tag)) 0 x₁₀ in
-        left-by _ i (update-over sound f s tag known d reading x₁₂ x₁₃) (update-goes sound f s tag known d reading x₁₂ x₁₃ .leaves)
-        (update-head (h .settings) (h .cursor) s f tag reading)
+        left-by _ i (update-goes sound f s tag known d reading x₁₂ x₁₃) (update-head (h .settings) (h .cursor) s f tag reading)
 
     update-told : (reading : ℕ) → Ready ws s → AllBut13 (clearOwn 1 h f tag) → ForetoldOf h f (Update s tag reading)
     update-told reading i (cons x₈ (cons x₁₀ (cons x₁₂ (cons x₁₃ nil)))) =

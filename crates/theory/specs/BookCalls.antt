@@ -24,8 +24,7 @@ use Rattle.theory.specs.Effects.{view, closed-word}
 use Rattle.theory.specs.Timeline.{Timeline}
 use Rattle.theory.specs.State.{shape}
 use Rattle.theory.specs.Changing.{clear-law}
-use Rattle.theory.specs.Copies.{headWith}
-use Rattle.theory.specs.Rest.{Rest}
+use Rattle.theory.specs.Rest.{Rest, headWith}
 use Rattle.theory.specs.BookTable.{tabulate-none}
 use Rattle.theory.specs.BookOf.{blockAt, bookOf}
 use Rattle.theory.specs.BookReads.{book-length, book-opened, book-closed, book-records, book-open-at}

@@ -29,17 +29,17 @@ use Rattle.calls.specs.Book.{Book, bookSet, bookClear, bookUpdate}
 use Rattle.calls.specs.Log.{soFar, among, stateAt}
 use Rattle.calls.specs.History.{Account, enters, outOfBlocks, accountTime, accountClear, accountTests}
 use Rattle.calls.specs.Claims.{First, Asked}
-use Rattle.theory.specs.Reading.{none}
+use Rattle.theory.specs.Timeline.{none}
 use Rattle.theory.specs.State.{free, not-found}
 use Rattle.theory.specs.SoFar.{so-far, among-none, none-among, never-shows}
 use Rattle.theory.specs.LogLaws.{readings}
 use Rattle.theory.specs.Foretelling.{set-foretold, clear-foretold, update-foretold}
-use Rattle.theory.specs.Copies.{headWith, copiesOf}
+use Rattle.theory.specs.Rest.{headWith, copiesOf}
 use Rattle.theory.specs.Sound.{set-sound, clear-sound, same-copies}
 use Rattle.theory.specs.BookCalls.{booked-length, booked-set, booked-clear, booked-update}
-use Rattle.theory.specs.LookAnswers.{walk-sound}
+use Rattle.theory.specs.Right.{walk-sound}
 use Rattle.theory.specs.Stored.{head-passes}
-use Rattle.theory.specs.TestLaws.{Alike, same, both, idle, alike-free, free-alike, alike-first, without, never-first}
+use Rattle.theory.specs.TestLaws.{Alike, same, both, idle, alike-free, free-alike, alike-first, lacks, never-first}
 use Rattle.theory.specs.EveryLookBack.{every-call}
 use Rattle.theory.specs.Honest.{Honest, head-is, word-is, sound}
 
@@ -189,7 +189,7 @@ module _ {ws : List ℕ} {a : Account} (i : Honest ws a) where
   refused-by x n e = alike-first (decides x) (every-call ws x .refused-first n e)
 
   -- REFUSAL 12 NEVER COMES
-  no-12 : (x : Call) → without 12 (accountTests (length ws) a x) ≡ true
+  no-12 : (x : Call) → lacks 12 (accountTests (length ws) a x) ≡ true
   no-12 (Start r) = refl
   no-12 (Set now tag reading) = refl
   no-12 (Clear now tag) = refl

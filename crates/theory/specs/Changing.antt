@@ -23,9 +23,8 @@ use Rattle.calls.specs.Placing.{placeOf, blockOf, slotOf, unlink, endRecord, st
 use Rattle.calls.specs.Placing.{place, replace, close, judge, clearTag}
 use Rattle.theory.specs.RunLaws.{each-walk}
 use Rattle.theory.specs.Effects.{view, unlink-effect}
-use Rattle.theory.specs.Reading.{none, some, logged}
 use Rattle.theory.specs.Records.{Placed}
-use Rattle.theory.specs.Timeline.{Timeline}
+use Rattle.theory.specs.Timeline.{Timeline, none, some, logged}
 use Rattle.theory.specs.Marks.{Pending, pending-frame}
 use Rattle.theory.specs.PartEffects.{recordsOf, end-records, put-records}
 use Rattle.theory.specs.State.{Shape, shape, State, NoneDue, DueAnd, same-end, free, not-found, pending}

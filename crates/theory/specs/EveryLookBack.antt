@@ -1,29 +1,28 @@
 -- Every look-back on any words: accepted if and only if no refusal applies, its answer fits its buffers, and refusal 12 fills both with zeros.
-use mathlib.Core.Path.{_≡_, refl, sym, ap₂, _∙_}
+use mathlib.Core.Path.{_≡_, refl, ap₂}
 use mathlib.Core.Logic.{_≢_}
-use mathlib.Core.Bool.{Bool, true, false, cond, not, _||_}
+use mathlib.Core.Bool.{Bool, true, false, cond, _||_}
 use mathlib.Core.List.{List, [], _∷_}
-use Prim.Native.Nat.{ℕ, zero, _*_, _-_, _≤_, _<_}
+use Prim.Native.Nat.{ℕ, zero, _*_, _≤_, _<_}
 use native.Mathlib.Omega.{arith}
 use lib.Dec.{eqb, ltb}
-use lib.ListN.{length, getD, length-append, length-drop}
+use lib.ListN.{length, length-append, length-drop}
 use borrow.Author.Tests.{ne-eqb, ltb-false}
 use Rattle.base.specs.Branch.{is?, or-false}
 use Rattle.base.specs.Sums.{All, nil, cons}
-use Rattle.layout.specs.Sizes.{OPEN, mark, rowLen}
-use Rattle.layout.specs.Fields.{headMark}
-use Rattle.layout.specs.Settings.{inLimits}
-use Rattle.layout.specs.Head.{headOf, badHead, fillFits, spareZero}
+use Rattle.layout.specs.Sizes.{rowLen}
+use Rattle.layout.specs.Head.{headOf}
 use Rattle.calls.specs.Calls.{Call, Start, Set, Clear, Update, Advance, Ask, LookBack, Row, Refused}
 use Rattle.calls.specs.Walk.{Pass, Looked, unsoundly, looked}
 use Rattle.calls.specs.Refusals.{Test, refusal, lookBackTests}
 use Rattle.calls.specs.LookBack.{SliceReply, lookAt, lookBack, seen, isUnsound, rowWords, written, reader}
 use Rattle.calls.specs.Step.{QueryReply}
 use Rattle.calls.specs.Claims.{First, EveryCall}
-use Rattle.theory.specs.LookFits.{look-fits}
-use Rattle.theory.specs.TestLaws.{Decided, free, turned, refused, refusal-lacks}
+use Rattle.theory.specs.Passes.{look-fits}
+use Rattle.theory.specs.TestLaws.{Decided, free, turned, refused, never-first}
 use Rattle.theory.specs.QueryLaws.{FairQuery, answered-query, turned-query, unsound-query, every-query}
 use Rattle.theory.specs.EveryCall.{every-start, every-set, every-clear, every-update, every-advance}
+use Rattle.theory.specs.ViewClaims.{few-blocks}
 
 row-words-length : (r : List Row) → length (rowWords r) ≡ rowLen * length r
 row-words-length [] = refl
@@ -32,21 +31,9 @@ row-words-length (x ∷ r) = omega (arith, row-words-length r)
 written-length : (words buffer : List ℕ) → length words ≤ length buffer → length (written words buffer) ≡ length buffer
 written-length words buffer h = simp (length-append, length-drop) (omega arith)
 
-few-opened : (ws : List ℕ) → badHead ws ≡ false → headOf ws .cursor .opened ≤ headOf ws .settings .blocks
-unfolding badHead
-few-opened ws e =
-    let a = or-false _ (not (fillFits (headOf ws))) e in
-    let b = or-false _ (not (spareZero ws)) (a .0) in
-    let c = or-false _ (eqb (headOf ws .cursor .clock) OPEN) (b .0) in
-    ltb-false _ _ (or-false (not (eqb (getD ws headMark 0) mark) || not (inLimits (headOf ws .settings))) (ltb (headOf ws .settings .blocks) (headOf ws .cursor .opened)) (c .0) .1)
-
 module _ (ws : List ℕ) (t : ℕ) (rows list : List ℕ) where
   abbrev pub tests : Bool → List Test
   tests u = lookBackTests ws t (length rows) (length list) u
-
-  -- a walk that is sound gets no refusal 12
-  sound-never : refusal (tests false) ≢ 12
-  sound-never = refusal-lacks 12 (tests false) (omega arith) refl
 
   -- what is answered fits the buffers
   fits : (r : List Row) (l : List ℕ) (ps : List Pass) → lookAt ws t ≡ looked r l ps → All (λ x. x .applies ≡ false) (tests false)
@@ -57,7 +44,7 @@ module _ (ws : List ℕ) (t : ℕ) (rows list : List ℕ) where
       let f = look-fits (h .settings .block) (h .settings .tags) (h .cursor .opened) t (reader ws) r l ps e in
       let b = or-false (ltb (length rows) (rowLen * h .settings .tags)) (ltb (length list) (h .settings .blocks)) x₁₁ in (
         written-length (rowWords r) rows (omega (arith, row-words-length r, f .0, ltb-false (length rows) (rowLen * h .settings .tags) (b .0))),
-        written-length l list (omega (arith, f .1, few-opened ws x₃, ltb-false (length list) (h .settings .blocks) (b .1))),
+        written-length l list (omega (arith, f .1, few-blocks ws x₃ .0, ltb-false (length list) (h .settings .blocks) (b .1))),
       )
 
   -- the reply, for what the walk gave
@@ -75,17 +62,18 @@ module _ (ws : List ℕ) (t : ℕ) (rows list : List ℕ) where
   turned-look : (w : Looked) (n : ℕ) → 0 < n → n ≢ 12 → First (tests (isUnsound w)) n → Fair w n
   turned-look w n p d f = rw (ne-eqb n 0 (omega arith), ne-eqb n 12 d) (turned-query n d f)
 
-  fair-look : (w : Looked) → lookAt ws t ≡ w → (n : ℕ) → n ≡ refusal (tests (isUnsound w)) → Decided (tests (isUnsound w)) n → Fair w n
-  fair-look unsoundly e zero k (free a) = absurd (not-free a)
-  fair-look unsoundly e n k (turned p f) = is? n 12 (λ z. rw z (unsound-query refl (rw z at f))) (λ d. turned-look unsoundly n p d f)
-  fair-look (looked r l ps) e zero k (free a) = let z = fits r l ps e a in answered-query refl tt a (ap₂ (λ (x y : ℕ). x ∷ y ∷ []) (z .0) (z .1))
-  fair-look (looked r l ps) e n k (turned p f) = turned-look (looked r l ps) n p (λ z. sound-never (sym k ∙ z)) f
+  fair-look : (w : Looked) → lookAt ws t ≡ w → (n : ℕ) → Decided (tests (isUnsound w)) n → Fair w n
+  fair-look unsoundly e zero (free a) = absurd (not-free a)
+  fair-look unsoundly e n (turned p f) = is? n 12 (λ z. rw z (unsound-query refl (rw z at f))) (λ d. turned-look unsoundly n p d f)
+  fair-look (looked r l ps) e zero (free a) = let z = fits r l ps e a in answered-query refl tt a (ap₂ (λ (x y : ℕ). x ∷ y ∷ []) (z .0) (z .1))
+  -- a walk that is sound gets no refusal 12
+  fair-look (looked r l ps) e n (turned p f) = turned-look (looked r l ps) n p (λ z. never-first {n = 12} {l = tests false} refl (rw z at f)) f
 
   pub every-look-back : EveryCall ws (Ask (LookBack t rows list))
   unfolding lookBack
   every-look-back =
       let w = lookAt ws t in
-      every-query ws (LookBack t rows list) (fair-look w refl (refusal (tests (isUnsound w))) refl (refused (tests (isUnsound w)) refl))
+      every-query ws (LookBack t rows list) (fair-look w refl (refusal (tests (isUnsound w))) (refused (tests (isUnsound w)) refl))
 
 -- EVERY CALL ON ANY WORDS.
 pub every-call : (ws : List ℕ) (c : Call) → EveryCall ws c

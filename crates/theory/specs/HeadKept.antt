@@ -164,20 +164,3 @@ module _ (s : Settings) (c : Cursor) (now : ℕ) (f : Memory) where
   pub advance-head : let z = runOn (advanceProgram s c now) f in HeadMoved (z .0) f (z .1)
   unfolding advanceProgram finish storeCursor
   advance-head = stored s (ret c) tt now f
-
-  -- ---- and the clock that is handed back is at its second
-  pub set-clock : (tag reading : ℕ) → (runOn (setProgram s c now tag reading) f) .0 .clock ≡ now
-  unfolding setProgram finish storeCursor
-  set-clock tag reading = refl
-
-  pub clear-clock : (tag : ℕ) → (runOn (clearProgram s c now tag) f) .0 .clock ≡ now
-  unfolding clearProgram finish storeCursor
-  clear-clock tag = refl
-
-  pub update-clock : (tag reading : ℕ) → (runOn (updateProgram s c now tag reading) f) .0 .clock ≡ now
-  unfolding updateProgram finish storeCursor
-  update-clock tag reading = refl
-
-  pub advance-clock : (runOn (advanceProgram s c now) f) .0 .clock ≡ now
-  unfolding advanceProgram finish storeCursor
-  advance-clock = refl

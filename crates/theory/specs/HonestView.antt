@@ -26,9 +26,8 @@ use Rattle.theory.specs.MemberLaws.{unique-nodup}
 use Rattle.theory.specs.RecordRows.{rows-log}
 use Rattle.theory.specs.EnoughRows.{rows-enough}
 use Rattle.theory.specs.BookCalls.{booked-useful, booked-open-at}
-use Rattle.theory.specs.Right.{RightLook, blocksOpen}
+use Rattle.theory.specs.Right.{RightLook, blocksOpen, walk-right}
 use Rattle.theory.specs.ViewClaims.{view-claims}
-use Rattle.theory.specs.LookAnswers.{walk-right}
 use Rattle.theory.specs.EveryLookBack.{every-call}
 use Rattle.theory.specs.LookReady.{weigh-records, rows-are}
 use Rattle.theory.specs.Honest.{Honest, head-is, sound}

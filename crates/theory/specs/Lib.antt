@@ -5,7 +5,6 @@ pub mod RunLaws
 pub mod Effects
 pub mod Times
 -- Records, their log, the directory and the standing bits
-pub mod Reading
 pub mod Records
 pub mod Timeline
 pub mod Directory
@@ -18,7 +17,6 @@ pub mod Useful
 pub mod Rolling
 pub mod Changing
 pub mod Fresh
-pub mod Copies
 pub mod Rest
 -- The closed words along a change, on any memory
 pub mod Closed
@@ -50,14 +48,11 @@ pub mod FoundSearch
 pub mod SearchLaws
 pub mod WalkTree
 pub mod Looking
-pub mod LookFits
 pub mod Right
 pub mod AlikeReaders
 pub mod Passes
 pub mod ViewClaims
 pub mod StoreAlike
-pub mod LookAnswers
-pub mod LookLinks
 -- Words that hold a memory, and every call on any words
 pub mod TestLaws
 pub mod HeadKept

@@ -4,12 +4,12 @@ use mathlib.Core.Path.{_≡_, refl, sym, ap, _∙_}
 use mathlib.Core.Logic.{_≢_, _↔_}
 use mathlib.Core.Bool.{true, _&&_}
 use mathlib.Core.List.{List, []}
-use Prim.Native.Nat.{ℕ, _-_, _/_, _%_, _≤_, _<_}
+use Prim.Native.Nat.{ℕ, _≤_, _<_}
 use native.Mathlib.Omega.{arith}
 use lib.Dec.{ltb, leb}
-use borrow.Author.Tests.{eqb-true, ltb-true, leb-true, lt-ltb, le-ltb}
-use Rattle.base.specs.Branch.{cond-all, lt?, and-true}
-use Rattle.base.specs.Slots.{bitOf, slots-count}
+use borrow.Author.Tests.{eqb-true, eq-eqb, ltb-true, leb-true}
+use Rattle.base.specs.Branch.{cond-all, and-true}
+use Rattle.base.specs.Slots.{slots-count}
 use Rattle.layout.specs.declared.settings.Settings.{Settings}
 use Rattle.layout.specs.declared.head.Cursor.{Cursor}
 use Rattle.layout.specs.declared.head.Head.{Head}
@@ -29,7 +29,7 @@ use Rattle.calls.specs.Step.{wordsRead}
 use Rattle.calls.specs.History.{Account}
 use Rattle.calls.specs.Claims.{AnyBlock, StandsAt, Means}
 use Rattle.theory.specs.PartEffects.{marksOf}
-use Rattle.theory.specs.Sound.{stands-is}
+use Rattle.theory.specs.Sound.{stands-bit}
 use Rattle.theory.specs.Honest.{Honest, head-is, word-is}
 use Rattle.theory.specs.ByAccount.{free-among, among-free}
 
@@ -47,19 +47,6 @@ pub any-block : AnyBlock
 any-block = record { brief = brief; number-of-ones = λ b l h. slots-count (b .low) (b .high) l h }
 
 -- ---- after a history
--- a slot that stands has its bit
-is-stands : (w : ℕ → ℕ) (k : ℕ) → k < 64 → stands (record { low = w 0; high = w 1 }) k ≡ true → bitOf w k ≡ 1
-unfolding stands
-is-stands w k a h = lt? k 32
-    (λ b.
-    let e : k % 32 ≡ k = omega arith in
-    let d : k / 32 ≡ 0 = omega arith in
-    rw (e, d) (eqb-true _ _ (rw (lt-ltb k 32 b) at h)))
-    (λ b.
-    let e : k % 32 ≡ k - 32 = omega arith in
-    let d : k / 32 ≡ 1 = omega arith in
-    rw (e, d) (eqb-true _ _ (rw (le-ltb k 32 b) at h)))
-
 module _ {ws : List ℕ} {a : Account} (i : Honest ws a) where
   abbrev s : Settings
   s = a .settings
@@ -94,8 +81,8 @@ module _ {ws : List ℕ} {a : Account} (i : Honest ws a) where
       let m = i .rest .full .state .marked in
       let low : k < 64 = omega (arith, i .rest .full .within .most) in
       let to = slot-is n k toWord l h q (omega arith) in
-      let e = ap (λ (b : Standing). stands b k) (bits-are n l h) in
-      (λ t. to ∙ m .unended n k (is-stands (marksOf f n) k low (sym e ∙ t)), λ o. e ∙ stands-is (marksOf f n) k low (m .marks n k (sym to ∙ o)))
+      let e = ap (λ (b : Standing). stands b k) (bits-are n l h) ∙ stands-bit (marksOf f n) k low in
+      (λ t. to ∙ m .unended n k (eqb-true _ _ (sym e ∙ t)), λ o. e ∙ eq-eqb _ _ (m .marks n k (sym to ∙ o)))
 
   place : (tag : ℕ) → tag < s .tags → wordsRead ws (Dir tag) ≢ 0 → (n : ℕ) × (k : ℕ) × StandsAt ws tag n k × (wordsRead ws (Dir tag) ≡ placeOf s n k)
   place tag known d =

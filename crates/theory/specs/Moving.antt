@@ -21,7 +21,7 @@ use Rattle.theory.specs.Timeline.{Timeline, told-move}
 use Rattle.theory.specs.Directory.{found-put, found-end}
 use Rattle.theory.specs.Marks.{Marks, PutBit, marked-at, Pending, no-more, one-more, pending-frame}
 use Rattle.theory.specs.PartEffects.{recordsOf, marksOf, directoryOf, end-records, end-marks, put-records, put-directory, put-marks}
-use Rattle.theory.specs.State.{Shape, shape, State, DueAnd, next-unused, stands-on, alone}
+use Rattle.theory.specs.State.{Shape, shape, State, DueAnd, next-unused, stands-on, alone, state-as}
 
 -- the acceptor has one record more
 abbrev pub appended : Shape → Records → Marks → (ℕ → ℕ) → Shape
@@ -87,16 +87,7 @@ pub record Moving (s : Settings) (Due : ℕ → Type 0) (now : ℕ) (log : Timel
 
 module _ {s : Settings} {Due : ℕ → Type 0} {now : ℕ} {log : Timeline} {x : ℕ} where
   pub moved-all : {S : Shape} → Moving s Due now log x [] S → State s Due now log S
-  moved-all {S} m = record {
-    past = m .state .past;
-    links = m .state .links;
-    index = m .state .index;
-    kept = m .state .kept;
-    marked = m .state .marked;
-    found = m .state .found;
-    told = m .state .told;
-    calm = λ n k d w. other n k w (m .state .calm n k d w);
-  }
+  moved-all {S} m = let i = m .state in state-as i (omega arith) (i .past) (i .told) (λ n k d w. other n k w (i .calm n k d w))
     where
       none-left : (lo : ℕ) → ((k : ℕ) → k < lo → S .records x k .to ≢ OPEN) → Pending (S .records) x lo [] → (k : ℕ) → S .records x k .to ≢ OPEN
       none-left lo d (no-more h) k = lt? k lo (λ a. d k a) (λ a. h k a)

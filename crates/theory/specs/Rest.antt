@@ -2,14 +2,13 @@
 -- tells the log. That the cursor stays within its bounds is `safety`'s (Next).
 use mathlib.Core.Path.{_≡_, refl}
 use mathlib.Core.Logic.{_≢_}
-use mathlib.Core.Bool.{false}
 use Prim.Native.Nat.{ℕ, _≤_, _<_}
 use native.Mathlib.Omega.{arith}
 use borrow.Author.Tests.{le-leb}
 use Rattle.base.specs.Branch.{eqb-same}
 use Rattle.layout.specs.declared.settings.Settings.{Settings}
 use Rattle.layout.specs.declared.head.Cursor.{Cursor}
-use Rattle.layout.specs.declared.address.Address.{Address}
+use Rattle.layout.specs.declared.head.Head.{Head}
 use Rattle.layout.specs.declared.address.Address.the-variants.{Dir}
 use Rattle.layout.specs.Sizes.{OPEN}
 use Rattle.layout.specs.Settings.{Within}
@@ -18,13 +17,21 @@ use Rattle.layout.specs.Program.{runOn}
 use Rattle.layout.specs.Cursor.{storeCursor}
 use Rattle.layout.specs.Head.{freshHead}
 use Rattle.calls.specs.Placing.{place, clearTag, finish, setProgram, clearProgram, updateProgram, advanceProgram}
+use Rattle.calls.specs.Refusals.{tagBlock, copies}
 use Rattle.safety.specs.CallSafe.{Next}
-use Rattle.theory.specs.Reading.{none, some, logged}
-use Rattle.theory.specs.Timeline.{Timeline}
+use Rattle.theory.specs.Timeline.{Timeline, none, some, logged}
 use Rattle.theory.specs.State.{shape, NoneDue, not-found, state-later}
 use Rattle.theory.specs.Rolling.{Full}
 use Rattle.theory.specs.Changing.{place-law, clear-law}
-use Rattle.theory.specs.Fresh.{inHead, fresh-full}
+use Rattle.theory.specs.Fresh.{freshMemory, fresh-full}
+
+-- the head of a store with these settings
+abbrev pub headWith : Settings → Cursor → Head
+headWith s c = record { settings = s; cursor = c }
+
+-- the copies that a clear of this tag makes
+abbrev pub copiesOf : Settings → Cursor → Memory → ℕ → ℕ
+copiesOf s c f tag = copies (headWith s c) f (tagBlock (headWith s c) f tag)
 
 pub record Rest (s : Settings) (log : Timeline) (c : Cursor) (f : Memory) : Type 0 where
   -- invariant and useful blocks at the clock, no block being moved or to be judged; settings within their limits; fill at most b
@@ -34,9 +41,8 @@ pub record Rest (s : Settings) (log : Timeline) (c : Cursor) (f : Memory) : Type
   pub begun : 1 ≤ c .opened → 1 ≤ c .fill
   pub empty : c .opened ≡ 0 → c .fill ≡ 0
 
-pub rest-fresh : (s : Settings) (f : Memory) → Within s → ((a : Address) → inHead a ≡ false → f a ≡ 0)
-    → Rest s (λ t tag. none) (freshHead s .cursor) f
-rest-fresh s f z blank = record { full = fresh-full s f z blank; limit = omega arith; begun = λ a. absurd (omega arith); empty = λ e. refl }
+pub rest-fresh : (s : Settings) → Within s → Rest s (λ t tag. none) (freshHead s .cursor) (freshMemory s)
+rest-fresh s z = record { full = fresh-full s z; limit = omega arith; begun = λ a. absurd (omega arith); empty = λ e. refl }
 
 module _ {s : Settings} {log : Timeline} (c : Cursor) (f : Memory) (i : Rest s log c f) (now : ℕ) where
   -- the end of a change: the cursor is stored, with the clock at now, within its bounds

@@ -31,8 +31,7 @@ use Rattle.theory.specs.Timeline.{Timeline}
 use Rattle.theory.specs.Effects.{view}
 use Rattle.theory.specs.PartEffects.{marksOf}
 use Rattle.theory.specs.Changing.{place-stands, open-block}
-use Rattle.theory.specs.Copies.{headWith, copiesOf}
-use Rattle.theory.specs.Rest.{Rest}
+use Rattle.theory.specs.Rest.{Rest, headWith, copiesOf}
 
 -- ---- tests that are false
 and-no : (a : Bool) {b : Bool} → b ≡ false → (a && b) ≡ false
@@ -43,17 +42,17 @@ or-no : {a b : Bool} → a ≡ false → b ≡ false → (a || b) ≡ false
 or-no e f = rw (e, f)
 
 -- ---- the bit of a slot, by word
-pub stands-is : (w : ℕ → ℕ) (k : ℕ) → k < 64 → bitOf w k ≡ 1 → stands (record { low = w 0; high = w 1 }) k ≡ true
+pub stands-bit : (w : ℕ → ℕ) (k : ℕ) → k < 64 → stands (record { low = w 0; high = w 1 }) k ≡ eqb (bitOf w k) 1
 unfolding stands
-stands-is w k a h = lt? k 32
+stands-bit w k a = lt? k 32
     (λ b.
     let e : k % 32 ≡ k = omega arith in
     let d : k / 32 ≡ 0 = omega arith in
-    simp (lt-ltb k 32 b, rw (e, d) at h))
+    rw (lt-ltb k 32 b, e, d))
     (λ b.
     let e : k % 32 ≡ k - 32 = omega arith in
     let d : k / 32 ≡ 1 = omega arith in
-    simp (le-ltb k 32 b, rw (e, d) at h))
+    rw (le-ltb k 32 b, e, d))
 
 module _ {s : Settings} {log : Timeline} (c : Cursor) (f : Memory) (i : Rest s log c f) (g : Memory) (same : Same g (Valid s) f) where
   -- ---- an open block
@@ -125,7 +124,7 @@ module _ {s : Settings} {log : Timeline} (c : Cursor) (f : Memory) (i : Rest s l
         let e : f (Dir tag) ≡ placeOf s n k = ap (λ (y : ℕ). f (Dir y)) (sym (w .tagged)) ∙ st .found .finds n k (w .unended) in
         let tagged : eqb (g (Slot n k tagWord)) tag ≡ true =
         eq-eqb (g (Slot n k tagWord)) tag (same .at (Slot n k tagWord) (nn, p .slot, omega arith) ∙ w .tagged) in
-        let marked = stands-is (marksOf f n) k (omega (arith, p .slot, i .full .within .most)) (st .marked .marks n k (w .unended)) in
+        let marked = stands-bit (marksOf f n) k (omega (arith, p .slot, i .full .within .most)) ∙ eq-eqb _ _ (st .marked .marks n k (w .unended)) in
         let bit : stands (blockBits g n) k ≡ true = rw (same-bits n 0 nn (omega arith), same-bits n 1 nn (omega arith)) marked in
         rw same-place (or-no (or-no (le-ltb (placed (headWith s c)) (f (Dir tag)) (place-low n k e (p .low) (p .high) (p .slot) (p .last)))
         (rw tagged)) (rw bit))

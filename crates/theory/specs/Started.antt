@@ -1,6 +1,5 @@
 -- The words that an accepted start leaves hold the fresh head and a memory that is zero but for the head.
 use mathlib.Core.Path.{_≡_, refl, ap, _∙_}
-use mathlib.Core.Bool.{true}
 use mathlib.Core.List.{List}
 use Prim.Native.Nat.{ℕ, zero, suc, _+_, _-_, _≤_, _<_}
 use native.Mathlib.Omega.{arith}
@@ -9,16 +8,16 @@ use lib.Seq.{getD-drop, getD-append-add}
 use Rattle.layout.specs.declared.settings.Settings.{Settings}
 use Rattle.layout.specs.declared.address.Address.{Address}
 use Rattle.layout.specs.declared.address.Address.the-variants.{Head, Time, Dir, Field, Bits, Slot}
-use Rattle.layout.specs.Sizes.{mark, headLen, layoutLen}
+use Rattle.layout.specs.Sizes.{headLen, layoutLen}
 use Rattle.layout.specs.Address.{offset, Valid}
 use Rattle.layout.specs.AddressLaws.{offset-below}
 use Rattle.layout.specs.Settings.{Within}
-use Rattle.layout.specs.Head.{headOf, headWords, withHead, cleared, spareZero, freshHead}
-use Rattle.layout.specs.Fields.{headMark}
+use Rattle.layout.specs.Head.{headWords, withHead, cleared, freshHead}
 use Rattle.layout.specs.Words.{readWord}
 use Rattle.layout.specs.OverLaws.{over-read, over-good, may-valid}
 use Rattle.theory.specs.Fresh.{freshMemory}
 use Rattle.theory.specs.Stored.{Stored}
+use Rattle.layout.specs.HeadLaws.{head-written, length-head}
 
 head-long : (s : Settings) → length (headWords (freshHead s)) ≡ headLen
 unfolding headWords
@@ -61,45 +60,19 @@ module _ (s : Settings) (ws : List ℕ) (long : layoutLen s ≤ length ws) where
   unfolding readWord
   read-at a v = reads a v
 
-  -- and hold the fresh head
-  fresh-head : freshHead s ≡ headOf after
-  unfolding headOf headWords
-  fresh-head =
-      rw (
-        head-at 1 (omega arith),
-        head-at 2 (omega arith),
-        head-at 3 (omega arith),
-        head-at 4 (omega arith),
-        head-at 5 (omega arith),
-        head-at 6 (omega arith),
-        head-at 7 (omega arith),
-        head-at 8 (omega arith),
-        head-at 9 (omega arith),
-      )
-
-  fresh-mark : getD after headMark 0 ≡ mark
-  unfolding headWords
-  fresh-mark = head-at 0 (omega arith)
-
-  fresh-spare : spareZero after ≡ true
-  unfolding headWords
-  fresh-spare =
-      rw (head-at 10 (omega arith), head-at 11 (omega arith), head-at 12 (omega arith), head-at 13 (omega arith), head-at 14 (omega arith), head-at 15 (omega arith))
+  cleared-length : length (cleared s ws) ≡ length ws
+  unfolding cleared
+  cleared-length = simp (length-append, length-drop, length-replicate) (omega arith)
 
   pub started-length : headLen ≤ length ws → length (withHead (freshHead s) (cleared s ws)) ≡ length ws
-  unfolding withHead cleared headWords
-  started-length l = simp (length-append, length-drop, length-replicate) (omega arith)
+  started-length l = length-head (freshHead s) (cleared s ws) (omega (arith, cleared-length)) ∙ cleared-length
 
   pub started : Within s → headLen ≤ length ws → Stored (withHead (freshHead s) (cleared s ws)) (freshHead s) (freshMemory s)
   unfolding after
   started w l = record {
-    read = record {
-      is = fresh-head;
-      sound = record { within = w; opened = omega arith; clock = omega arith; fill = omega arith; none = λ e. refl; some = λ e. absurd (omega arith) };
-      long = omega (arith, started-length l);
-      marked = fresh-mark;
-      spare = fresh-spare;
-    };
+    read = head-written (freshHead s) (cleared s ws)
+        (record { within = w; opened = omega arith; clock = omega arith; fill = omega arith; none = λ e. refl; some = λ e. absurd (omega arith) })
+        (omega (arith, cleared-length));
     agree = record {
       good = over-good s (record { long = omega (arith, started-length l) });
       same = record { at = λ a m. over-read s after a ∙ read-at a (may-valid s a m) };

@@ -21,9 +21,8 @@ use Rattle.theory.specs.Tree.{View}
 use Rattle.theory.specs.Row.{Linked, Unlinked, unlinked, opened, later}
 use Rattle.theory.specs.Effects.{view, put-is, open-effect}
 use Rattle.theory.specs.Times.{Indexed, indexed-open, indexed-same, times, open-enters}
-use Rattle.theory.specs.Reading.{Reading, none, some, logged}
 use Rattle.theory.specs.Records.{Record, Records, Stands, place?, Kept, kept-later, kept-put, kept-end, kept-unlink, kept-open}
-use Rattle.theory.specs.Timeline.{Timeline, Told, told-put, told-end, told-open}
+use Rattle.theory.specs.Timeline.{Timeline, Told, told-put, told-end, told-open, Reading, none, some, logged}
 use Rattle.theory.specs.Directory.{Found, found-put, found-end, found-open}
 use Rattle.theory.specs.Marks.{Marks, Marked, marked-at, marked-open, Pending, pending-slots}
 use Rattle.theory.specs.PartEffects.{recordsOf, directoryOf, marksOf, end-records, end-marks, put-records, put-directory, put-marks}
@@ -113,18 +112,23 @@ module _ {s : Settings} {Due : ℕ → Type 0} {clock : ℕ} {log : Timeline} {S
   pub pending : (x : ℕ) → Within s → Pending (S .records) x 0 (slotsOf (S .marks x 0) (S .marks x 1))
   pending x z = pending-slots x (i .marked) (λ k a w. omega (arith, z .most, i .kept .used x k (omega arith) .slot))
 
-  -- time passes
-  pub state-later : {now : ℕ} → clock ≤ now → now < OPEN → State s Due now log S
-  state-later a b = record {
+  -- the same shape at a later second, of which its records tell another log and others have still to move
+  pub state-as : {Due′ : ℕ → Type 0} {now : ℕ} {log′ : Timeline} → clock ≤ now → now < OPEN → Told (S .records) log′
+      → ((n k : ℕ) → S .view .closed n ≢ OPEN → S .records n k .to ≡ OPEN → Due′ n) → State s Due′ now log′ S
+  state-as a b t d = record {
     past = b;
     links = later (i .links) a;
     index = i .index;
     kept = kept-later (i .kept) a;
     marked = i .marked;
     found = i .found;
-    told = i .told;
-    calm = i .calm;
+    told = t;
+    calm = d;
   }
+
+  -- time passes
+  pub state-later : {now : ℕ} → clock ≤ now → now < OPEN → State s Due now log S
+  state-later a b = state-as a b (i .told) (i .calm)
 
 -- ---- a block leaves the row: its records have still to move
 abbrev pub relinkedShape : Shape → View → Shape

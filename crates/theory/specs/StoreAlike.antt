@@ -90,8 +90,9 @@ module _ (ws ws′ : List ℕ) (t : ℕ) (rows list : List ℕ) where
         let b = headOf ws .settings .block in
         let d = headOf ws .settings .tags in
         let N = headOf ws .cursor .opened in
+        let few = few-blocks ws (x .passed) in
         rw head (look-alike (reader ws) (reader ws′) b d N t (x .walked) root-same (all-map block-same (a .blocks))
-        (all-map page-same (passed-pages b d N t (reader ws) (few-blocks ws (x .passed)) (x .walked))) ∙ sym (x .walked))
+        (all-map page-same (passed-pages b d N t (reader ws) (omega (arith, few .0, few .1)) (x .walked))) ∙ sym (x .walked))
 
 pub store-alike : (ws : List ℕ) (t : ℕ) (rows list : List ℕ) → StoreAlike ws t rows list
 store-alike ws t rows list = record {

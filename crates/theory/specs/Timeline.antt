@@ -10,12 +10,19 @@ use lib.Dec.{eqb, leb}
 use borrow.Author.Tests.{eqb-true, eqb-false, leb-true, leb-false}
 use Rattle.base.specs.Branch.{by-test, cmp?}
 use Rattle.layout.specs.Sizes.{OPEN}
-use Rattle.theory.specs.Reading.{Reading, none, some, logged}
 use Rattle.theory.specs.Records.{Record, Records, Stands, endedAt, begunAt, place?, PutAt, Emptied}
 
--- for each second and tag the reading, if any
+-- a log for each second and tag: the reading, if any
+pub data Reading : Type 0 where
+  none : Reading
+  some : ℕ → Reading
+
 abbrev pub Timeline : Type 0
 Timeline = ℕ → ℕ → Reading
+
+-- from second s on the tag has this reading
+abbrev pub logged : ℕ → ℕ → Reading → Timeline → Timeline
+logged s g x l t h = cond (leb s t && eqb g h) x (l t h)
 
 pub record Told (f : Records) (log : Timeline) : Type 0 where
   pub sound : (t n k : ℕ) → t < OPEN → Stands t (f n k) → log t (f n k .tag) ≡ some (f n k .reading)
