@@ -25,9 +25,9 @@ use Rattle.theory.specs.Timeline.{Timeline}
 use Rattle.theory.specs.State.{shape}
 use Rattle.theory.specs.Changing.{clear-law}
 use Rattle.theory.specs.Rest.{Rest, headWith}
-use Rattle.theory.specs.BookTable.{tabulate-none}
+use Rattle.theory.specs.BookTable.{tabulate-none, opening-table, closing-table, open-table}
 use Rattle.theory.specs.BookOf.{blockAt, bookOf}
-use Rattle.theory.specs.BookReads.{book-length, book-opened, book-closed, book-records, book-open-at}
+use Rattle.theory.specs.BookReads.{book-length, book-records}
 use Rattle.theory.specs.BookChange.{set-book, clear-book}
 
 -- the store of a cursor and a memory shows the book k
@@ -90,11 +90,11 @@ module _ {s : Settings} {k : Book} {c : Cursor} {f : Memory} (b : Booked s k c f
   booked-length = ap (λ (y : Book). length (y .blocks)) (sym (b .is-book)) ∙ book-length (s .block) (shape c f)
 
   pub booked-opened : (n : ℕ) → n < c .opened → f (Field (n + 1) openedWord) ≡ getD (openings (k .blocks)) n 0
-  booked-opened n h = sym (book-opened (s .block) (shape c f) n h) ∙ ap (λ (y : Book). getD (openings (y .blocks)) n 0) (b .is-book)
+  booked-opened n h = sym (opening-table (c .opened) n (λ j. blockAt (s .block) (shape c f) (j + 1)) h) ∙ ap (λ (y : Book). getD (openings (y .blocks)) n 0) (b .is-book)
 
   pub booked-closed : (n : ℕ) → n < c .opened → f (Field (n + 1) closedWord) ≡ getD (closings (k .blocks)) n 0
   booked-closed n h =
-      sym (book-closed (s .block) (shape c f) n h ∙ closed-word c f (n + 1) (omega arith))
+      sym (closing-table (c .opened) n (λ j. blockAt (s .block) (shape c f) (j + 1)) h ∙ closed-word c f (n + 1) (omega arith))
       ∙ ap (λ (y : Book). getD (closings (y .blocks)) n 0) (b .is-book)
 
   pub booked-records : placed (headWith s c) ≡ recordsIn (k .blocks)
@@ -102,4 +102,5 @@ module _ {s : Settings} {k : Book} {c : Cursor} {f : Memory} (b : Booked s k c f
   booked-records = sym (book-records (s .block) (shape c f)) ∙ ap (λ (y : Book). recordsIn (y .blocks)) (b .is-book)
 
   pub booked-open-at : (t : ℕ) → openAt t (k .blocks) ≡ sumTo (c .opened) (λ n. is (leb (view c f .opened n) t && ltb t (view c f .closed n)))
-  booked-open-at t = ap (λ (y : Book). openAt t (y .blocks)) (sym (b .is-book)) ∙ book-open-at (s .block) (shape c f) t
+  booked-open-at t = ap (λ (y : Book). openAt t (y .blocks)) (sym (b .is-book))
+      ∙ open-table (c .opened) t (λ j. blockAt (s .block) (shape c f) (j + 1)) (view c f .opened) (view c f .closed) (λ j h. refl) (λ j h. refl)

@@ -25,9 +25,9 @@ use Rattle.theory.specs.Records.{Record}
 use Rattle.theory.specs.Timeline.{Timeline}
 use Rattle.theory.specs.Marks.{Pending}
 use Rattle.theory.specs.PartEffects.{recordsOf, end-records}
-use Rattle.theory.specs.State.{shape, State, NoneDue, DueAnd, alone, pending, clearedAt}
+use Rattle.theory.specs.State.{shape, State, NoneDue, alone, pending, clearedAt}
 use Rattle.theory.specs.Rolling.{Full}
-use Rattle.theory.specs.Changing.{Outer, outer-room, rolled-moving, outer-step, outer-start, place-stands, open-block, clear-closed, clear-full}
+use Rattle.theory.specs.Changing.{Outer, outer-full, outer-room, rolled-moving, outer-step, outer-start, place-stands, open-block, clear-closed, clear-full}
 use Rattle.theory.specs.Layers.{Write}
 use Rattle.theory.specs.BookOf.{sizeOf, blocksIn, bookOf, book-ends, last-size, full-size}
 use Rattle.theory.specs.BookReads.{book-last, book-holder}
@@ -48,14 +48,12 @@ module _ (s : Settings) where
         let o = m .walk in
         let r = outer-room c f o in
         let v = rolled-moving (o .moving) r in
-        let i : Full s (DueAnd Due x) 0 0 now log (shape c f) =
-        record { state = o .moving .state; useful = o .useful; within = o .within; fits = o .fits } in
         let tags : (j : ℕ) → z .1 (Slot x j tagWord) ≡ f (Slot x j tagWord) =
         λ j. ap (λ (e : Record). e .tag) (r .beyond .records x j (o .moving .before)) in
         written m (outer-step k l c f o) (λ j. move-tags s (z .0) (z .1) x k now (v .before) j ∙ tags j)
         (move-book s (z .0) (z .1) x k now (v .before) (r .full .state .links .last) (λ e. omega (arith, v .closed-now, v .state .past))
         ∙ ap (λ (g : ℕ). appends g (blocksIn s (shape (z .0) (z .1)))) (tags k)
-        ∙ write-book s c f now i (omega arith) (o .moving .state .past) (f (Slot x k tagWord)))
+        ∙ write-book s c f now (outer-full o) (omega arith) (o .moving .state .past) (f (Slot x k tagWord)))
 
   -- ---- a block closes, and is judged
   module _ {Due : ℕ → Type 0} {log : Timeline} (c : Cursor) (f : Memory) (x now : ℕ) (i : Full s Due x now now log (shape c f)) (low : 1 ≤ x)

@@ -5,19 +5,18 @@ use mathlib.Core.Bool.{true, false, cond, _&&_}
 use mathlib.Core.List.{List, map}
 use Prim.Native.Nat.{ℕ, _+_, _*_, _-_, _≤_, _<_}
 use native.Mathlib.Omega.{arith}
-use lib.Dec.{eqb, ltb, leb}
-use lib.ListN.{length, getD}
+use lib.Dec.{eqb}
+use lib.ListN.{length}
 use borrow.Author.Tests.{eqb-true, eqb-false, eq-eqb}
 use Rattle.base.specs.Branch.{by-test, cond-all, and-true, and-is}
 use Rattle.base.specs.Ones.{Lists, none, more}
-use Rattle.base.specs.Sums.{is, sumTo}
 use Rattle.layout.specs.Sizes.{OPEN}
-use Rattle.calls.specs.Book.{standingTags, entriesOf, lastOf, holds, holderOf, recordsIn, openings, closings, openAt}
+use Rattle.calls.specs.Book.{standingTags, entriesOf, lastOf, holds, holderOf, recordsIn}
 use Rattle.theory.specs.Marks.{Pending, no-more, one-more}
 use Rattle.theory.specs.State.{Shape}
 use Rattle.theory.specs.BookTable.{tabulate, tabulate-none, length-tabulate, holds-table, lacks-table, standing-table, entries-table}
 use Rattle.theory.specs.BookTable.{last-table}
-use Rattle.theory.specs.BookTable.{holder-table, opening-table, closing-table, records-table, open-table}
+use Rattle.theory.specs.BookTable.{holder-table, records-table}
 use Rattle.theory.specs.BookOf.{entryOf, sizeOf, blockAt, blocksOf, last-size, full-size}
 
 module _ (b : ℕ) (S : Shape) where
@@ -49,16 +48,6 @@ module _ (b : ℕ) (S : Shape) where
       let size : (n : ℕ) → length (blockAt b S n .entries) ≡ sizeOf b S n = λ n. length-tabulate (sizeOf b S n) (entryOf S n) in
       records-table (S .opened) b (λ i. blockAt b S (i + 1)) (omega arith) (λ i h. size (i + 1) ∙ full-size b S (i + 1) (omega arith))
       ∙ ap (λ (k : ℕ). (S .opened - 1) * b + k) (size (S .opened - 1 + 1) ∙ last-size b S (S .opened - 1 + 1) number))
-
-  -- ---- seconds
-  pub book-opened : (i : ℕ) → i < S .opened → getD (openings (blocksOf b S)) i 0 ≡ S .view .opened (i + 1)
-  book-opened i h = opening-table (S .opened) i (λ j. blockAt b S (j + 1)) h
-
-  pub book-closed : (i : ℕ) → i < S .opened → getD (closings (blocksOf b S)) i 0 ≡ S .view .closed (i + 1)
-  book-closed i h = closing-table (S .opened) i (λ j. blockAt b S (j + 1)) h
-
-  pub book-open-at : (t : ℕ) → openAt t (blocksOf b S) ≡ sumTo (S .opened) (λ n. is (leb (S .view .opened n) t && ltb t (S .view .closed n)))
-  book-open-at t = open-table (S .opened) t (λ i. blockAt b S (i + 1)) (S .view .opened) (S .view .closed) (λ i h. refl) (λ i h. refl)
 
   -- ---- tags
   -- the standing tags of an open block that is not the last, in order, are those of its unended records

@@ -55,12 +55,6 @@ module _ {A : Type 0} where
   unfolding tabulate
   tabulate-from n lo p = ap₂ _∷_ (ap p (omega arith)) (tabulate-same n (λ i a. ap p (omega arith)))
 
-  pub getD-tabulate : (n i : ℕ) (p : ℕ → A) (d : A) → i < n → getD (tabulate n p) i d ≡ p i
-  unfolding tabulate
-  getD-tabulate zero i p d h = absurd (omega arith)
-  getD-tabulate (suc n) zero p d h = refl
-  getD-tabulate (suc n) (suc i) p d h = getD-tabulate n i (λ j. p (suc j)) d (omega arith)
-
 -- a test that is not true
 refuted : (b : Bool) → b ≢ true → b ≡ false
 refuted true h = absurd (h refl)
@@ -164,21 +158,17 @@ holder-table (suc n) (suc i) tag p h t f =
 
 -- ---- what is read off the book
 
-openings-table : (n : ℕ) (p : ℕ → Block) → openings (tabulate n p) ≡ tabulate n (λ i. p i .opened)
-unfolding tabulate
-openings-table zero p = refl
-openings-table (suc n) p = ap (λ (l : List ℕ). p 0 .opened ∷ l) (openings-table n (λ i. p (suc i)))
-
 pub opening-table : (n i : ℕ) (p : ℕ → Block) → i < n → getD (openings (tabulate n p)) i 0 ≡ p i .opened
-opening-table n i p h = ap (λ (l : List ℕ). getD l i 0) (openings-table n p) ∙ getD-tabulate n i (λ j. p j .opened) 0 h
-
-closings-table : (n : ℕ) (p : ℕ → Block) → closings (tabulate n p) ≡ tabulate n (λ i. p i .closed)
 unfolding tabulate
-closings-table zero p = refl
-closings-table (suc n) p = ap (λ (l : List ℕ). p 0 .closed ∷ l) (closings-table n (λ i. p (suc i)))
+opening-table zero i p h = absurd (omega arith)
+opening-table (suc n) zero p h = refl
+opening-table (suc n) (suc i) p h = opening-table n i (λ j. p (suc j)) (omega arith)
 
 pub closing-table : (n i : ℕ) (p : ℕ → Block) → i < n → getD (closings (tabulate n p)) i 0 ≡ p i .closed
-closing-table n i p h = ap (λ (l : List ℕ). getD l i 0) (closings-table n p) ∙ getD-tabulate n i (λ j. p j .closed) 0 h
+unfolding tabulate
+closing-table zero i p h = absurd (omega arith)
+closing-table (suc n) zero p h = refl
+closing-table (suc n) (suc i) p h = closing-table n i (λ j. p (suc j)) (omega arith)
 
 -- the records, where all blocks but the last have b
 full-records : (n b : ℕ) (p : ℕ → Block) → ((i : ℕ) → i < n → length (p i .entries) ≡ b) → recordsIn (tabulate n p) ≡ n * b

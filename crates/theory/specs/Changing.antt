@@ -1,6 +1,6 @@
 -- The changes: a record is placed (place-law); a block closes and its records go where any record goes, blocks opening on the way
 -- (closing-law); a tag is cleared and its block judged (clear-law). Each keeps the invariant and the useful blocks, and tells the log.
-use mathlib.Core.Path.{_≡_, refl, sym, ap, _∙_, subst⁻¹}
+use mathlib.Core.Path.{_≡_, refl, sym, ap, _∙_}
 use mathlib.Core.Logic.{_≢_}
 use mathlib.Core.List.{List, _∷_}
 use Prim.Native.Nat.{ℕ, _+_, _*_, _-_, _/_, _%_, _≤_, _<_}
@@ -22,15 +22,15 @@ use Rattle.layout.specs.Program.{runOn}
 use Rattle.calls.specs.Placing.{placeOf, blockOf, slotOf, unlink, endRecord, standing, putRecord, moveRecord, makeRoom}
 use Rattle.calls.specs.Placing.{place, replace, close, judge, clearTag}
 use Rattle.theory.specs.RunLaws.{each-walk}
-use Rattle.theory.specs.Effects.{view, unlink-effect}
+use Rattle.theory.specs.Effects.{view}
 use Rattle.theory.specs.Records.{Placed}
 use Rattle.theory.specs.Timeline.{Timeline, none, some, logged}
 use Rattle.theory.specs.Marks.{Pending, pending-frame}
 use Rattle.theory.specs.PartEffects.{recordsOf, end-records, put-records}
 use Rattle.theory.specs.State.{Shape, shape, State, NoneDue, DueAnd, same-end, free, not-found, pending}
-use Rattle.theory.specs.State.{left-row, unlink-shape, set-record, clearedAt, clear-record}
-use Rattle.theory.specs.Moving.{Moving, moved-all, move-effect, move-step}
-use Rattle.theory.specs.Useful.{Useful, useful-move, useful-set, useful-end, useful-close, useful-judged, useful-all}
+use Rattle.theory.specs.State.{unlink-shape, set-record, clearedAt, clear-record}
+use Rattle.theory.specs.Moving.{Moving, moved-all, unlinked-moving, move-step}
+use Rattle.theory.specs.Useful.{useful-set, useful-end, useful-judged, useful-all}
 use Rattle.theory.specs.Rolling.{Full, Rolled, room-law}
 
 -- ---- a record is placed
@@ -59,22 +59,23 @@ module _ {s : Settings} {Due : ℕ → Type 0} where
 -- ---- a block closes whose records may fill the acceptor up: in the midst of it
 pub record Outer (s : Settings) (Due : ℕ → Type 0) (now : ℕ) (log : Timeline) (x : ℕ) (rest : List ℕ) (S : Shape) : Type 0 where
   pub moving : Moving s Due now log x rest S
-  pub useful : Useful s 0 0 S
   pub within : Within s
   pub fits : S .fill ≤ s .block
 
 module _ {s : Settings} {Due : ℕ → Type 0} {now : ℕ} {log : Timeline} {x : ℕ} where
+  pub outer-full : {l : List ℕ} {S : Shape} → Outer s Due now log x l S → Full s (DueAnd Due x) 0 0 now log S
+  outer-full m = record { state = m .moving .state; useful = m .moving .useful; within = m .within; fits = m .fits }
+
   -- room is made for the next record
   pub outer-room : {l : List ℕ} (c : Cursor) (f : Memory) → Outer s Due now log x l (shape c f)
       → let z = runOn (makeRoom s c now) f in Rolled s (DueAnd Due x) now log (shape c f) (shape (z .0) (z .1))
-  outer-room c f m =
-      let i = m .moving .state in
-      room-law c f now (record { state = i; useful = m .useful; within = m .within; fits = m .fits }) (omega arith) (i .past)
+  outer-room c f m = room-law c f now (outer-full m) (omega arith) (m .moving .state .past)
 
   -- which leaves the records of x, for x lies before the acceptor
   pub rolled-moving : {l : List ℕ} {S T : Shape} → Moving s Due now log x l S → Rolled s (DueAnd Due x) now log S T → Moving s Due now log x l T
   rolled-moving m r = record {
     state = r .full .state;
+    useful = r .full .useful;
     closed-now = r .beyond .closed x (m .before) ∙ m .closed-now;
     before = omega (arith, m .before, r .beyond .grows);
     lo = m .lo;
@@ -86,14 +87,7 @@ module _ {s : Settings} {Due : ℕ → Type 0} {now : ℕ} {log : Timeline} {x :
   outer-moved : {S : Shape} (k : ℕ) (l : List ℕ) (c : Cursor) (f : Memory) → Moving s Due now log x (k ∷ l) (shape c f)
       → Rolled s (DueAnd Due x) now log S (shape c f) → let z = runOn (moveRecord s x now k c) f in Outer s Due now log x l (shape (z .0) (z .1))
   unfolding moveRecord endRecord putRecord
-  outer-moved k l c f m r =
-      let e = move-effect s c f now x k in
-      record {
-        moving = move-step k l c f m (r .room);
-        useful = useful-move (r .full .useful) (e .ends) (e .begins) (m .closed-now);
-        within = r .full .within;
-        fits = omega (arith, r .room);
-      }
+  outer-moved k l c f m r = record { moving = move-step k l c f m (r .room); within = r .full .within; fits = omega (arith, r .room) }
 
   pub outer-step : (k : ℕ) (l : List ℕ) (c : Cursor) (f : Memory) → Outer s Due now log x (k ∷ l) (shape c f)
       → let z = runOn (replace s x now k c) f in Outer s Due now log x l (shape (z .0) (z .1))
@@ -105,21 +99,11 @@ module _ {s : Settings} {Due : ℕ → Type 0} {now : ℕ} {log : Timeline} {x :
 
   pub outer-start : (c : Cursor) (f : Memory) (l : List ℕ) → Full s Due x now now log (shape c f) → 1 ≤ x → x < c .opened → view c f .closed x ≡ OPEN
       → Pending (recordsOf f) x 0 l → let z = runOn (unlink c x now) f in Outer s Due now log x l (shape (z .0) (z .1))
-  outer-start c f l i low inner o p =
-      let e = unlink-effect c f x now low in
-      subst⁻¹ (λ (S : Shape). Outer s Due now log x l S) (unlink-shape c x now f) (record {
-        moving = record {
-          state = left-row (i .state) e (omega arith) (i .state .past) low inner o;
-          closed-now = e .closed .here;
-          before = inner;
-          lo = 0;
-          done = λ k a. absurd (omega arith);
-          pend = p;
-        };
-        useful = useful-close (i .useful) e o;
-        within = i .within;
-        fits = i .fits;
-      })
+  outer-start c f l i low inner o p = record {
+    moving = unlinked-moving c f l (i .state) (i .useful) (omega arith) (i .state .past) low inner o p;
+    within = i .within;
+    fits = omega (arith, ap (λ (S : Shape). S .fill) (unlink-shape c x now f), i .fits);
+  }
 
 module _ {s : Settings} {Due : ℕ → Type 0} {log : Timeline} where
   pub closing-law : (c : Cursor) (f : Memory) (x now : ℕ) (l : List ℕ) → Full s Due x now now log (shape c f) → 1 ≤ x → x < c .opened
@@ -130,7 +114,7 @@ module _ {s : Settings} {Due : ℕ → Type 0} {log : Timeline} where
       let z = runOn (unlink c x now) f in
       let m = each-walk (λ y (d : Cursor) (g : Memory). Outer s Due now log x y (shape d g)) (replace s x now) (λ k y d g m. outer-step k y d g m)
       l (z .0) (z .1) (outer-start c f l i low inner o p) in
-      record { state = moved-all (m .moving); useful = m .useful; within = m .within; fits = m .fits }
+      record { state = moved-all (m .moving); useful = m .moving .useful; within = m .within; fits = m .fits }
 
   -- a block other than the acceptor is judged
   pub judging-law : (c : Cursor) (f : Memory) (x now : ℕ) → Full s Due x now now log (shape c f) → 1 ≤ x → x < c .opened → view c f .closed x ≡ OPEN

@@ -1,5 +1,5 @@
 -- The links that a cursor and a memory hold, and what the parts of a change do to them: `unlink` is a leaving of the row (Unlinked),
--- `openBlock` an opening at its end (Opened), and a program that writes no block's seconds or links leaves them.
+-- `openBlock` an opening at its end (Opened).
 use mathlib.Core.Path.{_≡_, refl, sym, _∙_, subst}
 use mathlib.Core.Bool.{Bool, true, false, cond}
 use Prim.Native.Nat.{ℕ, _+_, _≤_}
@@ -13,7 +13,7 @@ use Rattle.layout.specs.declared.address.Address.the-variants.{Head, Time, Dir,
 use Rattle.layout.specs.Sizes.{OPEN}
 use Rattle.layout.specs.Fields.{openedWord, closedWord, upWord, leftWord, childWord, rightWord}
 use Rattle.layout.specs.Memory.{Memory}
-use Rattle.layout.specs.Program.{Prog, runOn}
+use Rattle.layout.specs.Program.{runOn}
 use Rattle.calls.specs.Placing.{enterTime, openBlock, unlink}
 use Rattle.theory.specs.Tree.{View}
 use Rattle.theory.specs.Row.{Put, Unlinked, Opened}
@@ -85,31 +85,35 @@ unlink-effect c f x now some =
       child = put-later (c .child) (λ n. f (Field n childWord)) up x up1;
     })
 
--- ---- programs that write no second or link of a block
-abbrev pub linkless : Address → Bool
-linkless (Head j) = true
-linkless (Time l i) = true
-linkless (Dir t) = true
-linkless (Field n j) = false
-linkless (Bits n w) = true
-linkless (Slot n k i) = true
-
-pub view-kept : {A : Type 0} (child right : ℕ) (p : Prog A) (f : Memory) → Only linkless p
-    → viewOf child right ((runOn p f) .1) ≡ viewOf child right f
-view-kept child right p f o = λ i. record {
-  opened = λ n. framed linkless p f o (Field n openedWord) refl i;
-  closed = withFirst OPEN (λ n. framed linkless p f o (Field n closedWord) refl i);
-  up = λ n. framed linkless p f o (Field n upWord) refl i;
-  left = λ n. framed linkless p f o (Field n leftWord) refl i;
-  child = withFirst child (λ n. framed linkless p f o (Field n childWord) refl i);
-  right = withFirst right (λ n. framed linkless p f o (Field n rightWord) refl i);
-}
-
 -- ---- a block opens
 -- the times are written, and nothing else
 pub enter-only : (W : Address → Bool) → ((l i : ℕ) → W (Time l i) ≡ true) → (i now : ℕ) → Only W (enterTime i now)
 unfolding enterTime
 enter-only W h i now = met (h 0 i) then λ _. (met (h 1 _) then tt) then λ _. met (h 2 _) then tt
+
+abbrev isTime : Address → Bool
+isTime (Head j) = false
+isTime (Time l i) = true
+isTime (Dir t) = false
+isTime (Field n j) = false
+isTime (Bits n w) = false
+isTime (Slot n k i) = false
+
+pub enter-keeps : (i now : ℕ) (f : Memory) (a : Address) → isTime a ≡ false → (runOn (enterTime i now) f) .1 a ≡ f a
+enter-keeps i now f a e = framed isTime (enterTime i now) f (enter-only isTime (λ l i. refl) i now) a e
+
+-- so all seconds and links of blocks stay
+enter-view : (child right i now : ℕ) (f : Memory) → viewOf child right ((runOn (enterTime i now) f) .1) ≡ viewOf child right f
+enter-view child right i now f =
+    let same : (n j : ℕ) → (runOn (enterTime i now) f) .1 (Field n j) ≡ f (Field n j) = λ n j. enter-keeps i now f (Field n j) refl in
+    λ k. record {
+      opened = λ n. same n openedWord k;
+      closed = withFirst OPEN (λ n. same n closedWord k);
+      up = λ n. same n upWord k;
+      left = λ n. same n leftWord k;
+      child = withFirst child (λ n. same n childWord k);
+      right = withFirst right (λ n. same n rightWord k);
+    }
 
 pub open-effect : (c : Cursor) (f : Memory) (now : ℕ) → let z = runOn (openBlock c now) f in Opened (view c f) (view (z .0) (z .1)) (c .opened) now
 unfolding openBlock
@@ -118,7 +122,7 @@ open-effect c f now =
     let g = (runOn (enterTime N now) f) .1 in
     let some : 1 ≤ N + 1 = omega arith in
     subst (λ (v : View). Opened v (view ((runOn (openBlock c now) f) .0) ((runOn (openBlock c now) f) .1)) N now)
-    (view-kept (c .child) (c .right) (enterTime N now) f (enter-only linkless (λ l i. refl) N now))
+    (enter-view (c .child) (c .right) N now f)
     (cond-all (λ (z : Cursor × Memory). Opened (view c g) (view (z .0) (z .1)) N now) (eqb N 0)
     (λ e.
     let none = eqb-true N 0 e in

@@ -15,8 +15,9 @@ use Rattle.layout.specs.Address.{ofBlock}
 use Rattle.layout.specs.Memory.{Memory}
 use Rattle.layout.specs.Program.{Prog, ret, bind, each, runOn}
 use Rattle.layout.specs.Cursor.{storeCursor}
-use Rattle.calls.specs.Placing.{enterTime, openBlock, unlink, endRecord, standing, putRecord, moveRecord, closeFull, judgeFull, roll, makeRoom, place, replace, close, judge, clearTag, finish, setProgram, clearProgram, updateProgram, advanceProgram}
+use Rattle.calls.specs.Placing.{openBlock, unlink, endRecord, standing, putRecord, moveRecord, closeFull, judgeFull, roll, makeRoom, place, replace, close, judge, clearTag, finish, setProgram, clearProgram, updateProgram, advanceProgram}
 use Rattle.theory.specs.RunLaws.{Only, framed}
+use Rattle.theory.specs.Effects.{enter-only}
 
 -- every word but the head's
 abbrev pub headless : Address → Bool
@@ -40,13 +41,9 @@ unfolding each
 only-each body h [] x = tt
 only-each body h (k ∷ l) x = (h k x, λ y. only-each body h l y)
 
-only-time : (i now : ℕ) → Only headless (enterTime i now)
-unfolding enterTime
-only-time i now = ((refl, tt), λ _. (((refl, tt), tt), λ _. ((refl, tt), tt)))
-
 only-open : (c : Cursor) (now : ℕ) → Only headless (openBlock c now)
 unfolding openBlock
-only-open c now = (only-time (c .opened) now, λ _. ((outside (c .opened + 1), tt), λ _. ((refl, tt), λ _. ((refl, tt), λ _. ((refl, tt), λ _. (tt, ((refl, tt), λ _. tt)))))))
+only-open c now = (enter-only headless (λ l i. refl) (c .opened) now, λ _. ((outside (c .opened + 1), tt), λ _. ((refl, tt), λ _. ((refl, tt), λ _. ((refl, tt), λ _. (tt, ((refl, tt), λ _. tt)))))))
 
 only-unlink : (c : Cursor) (x now : ℕ) → Only headless (unlink c x now)
 unfolding unlink

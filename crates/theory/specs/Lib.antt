@@ -59,7 +59,6 @@ pub mod HeadKept
 pub mod Stored
 pub mod Started
 pub mod OneChange
-pub mod AnyChange
 pub mod EveryCall
 pub mod QueryLaws
 pub mod EveryLookBack

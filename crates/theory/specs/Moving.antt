@@ -1,6 +1,6 @@
 -- The records of a closed block move to the acceptor, one at a time: the invariant in the midst of it (Moving), with the list of the slots
 -- that are left, and a step of it (move-step). With none left the invariant holds as before (moved-all).
-use mathlib.Core.Path.{_≡_, refl, sym, ap, _∙_}
+use mathlib.Core.Path.{_≡_, refl, sym, ap, _∙_, subst⁻¹}
 use mathlib.Core.Logic.{_≢_, inl, inr}
 use mathlib.Core.List.{List, [], _∷_}
 use Prim.Native.Nat.{ℕ, _+_, _≤_, _<_}
@@ -13,27 +13,16 @@ use Rattle.layout.specs.Sizes.{OPEN}
 use Rattle.layout.specs.Fields.{tagWord, readingWord}
 use Rattle.layout.specs.Memory.{Memory}
 use Rattle.layout.specs.Program.{runOn}
-use Rattle.calls.specs.Placing.{placeOf, endRecord, putRecord, moveRecord}
+use Rattle.calls.specs.Placing.{placeOf, unlink, endRecord, putRecord, moveRecord}
 use Rattle.theory.specs.Row.{Put}
-use Rattle.theory.specs.Effects.{put-is}
+use Rattle.theory.specs.Effects.{view, put-is, unlink-effect}
 use Rattle.theory.specs.Records.{Record, Records, endedAt, begunAt, place?, PutAt, kept-put, kept-end}
 use Rattle.theory.specs.Timeline.{Timeline, told-move}
 use Rattle.theory.specs.Directory.{found-put, found-end}
 use Rattle.theory.specs.Marks.{Marks, PutBit, marked-at, Pending, no-more, one-more, pending-frame}
 use Rattle.theory.specs.PartEffects.{recordsOf, marksOf, directoryOf, end-records, end-marks, put-records, put-directory, put-marks}
-use Rattle.theory.specs.State.{Shape, shape, State, DueAnd, next-unused, stands-on, alone, state-as}
-
--- the acceptor has one record more
-abbrev pub appended : Shape → Records → Marks → (ℕ → ℕ) → Shape
-appended S records marks directory = record {
-  view = S .view;
-  times = S .times;
-  records = records;
-  marks = marks;
-  directory = directory;
-  opened = S .opened;
-  fill = S .fill + 1;
-}
+use Rattle.theory.specs.State.{Shape, shape, State, appended, left-row, unlink-shape, DueAnd, next-unused, stands-on, alone, state-as}
+use Rattle.theory.specs.Useful.{Useful, useful-move, useful-close}
 
 -- from S, the record of slot k of block x ends at second now (middle, midmarks) and begins anew in the acceptor's next slot, where the
 -- directory finds it
@@ -79,6 +68,7 @@ module _ {s : Settings} {Due : ℕ → Type 0} {now : ℕ} {log : Timeline} {S :
 -- in the midst of moving the records of block x, which closed at second now; the slots `rest` are left, from lo on
 pub record Moving (s : Settings) (Due : ℕ → Type 0) (now : ℕ) (log : Timeline) (x : ℕ) (rest : List ℕ) (S : Shape) : Type 0 where
   pub state : State s (DueAnd Due x) now log S
+  pub useful : Useful s 0 0 S
   pub closed-now : S .view .closed x ≡ now
   pub before : x < S .opened
   pub lo : ℕ
@@ -95,6 +85,22 @@ module _ {s : Settings} {Due : ℕ → Type 0} {now : ℕ} {log : Timeline} {x :
       other : (n k : ℕ) → S .records n k .to ≡ OPEN → DueAnd Due x n → Due n
       other n k w (inl q) = q
       other n k w (inr e) = absurd (none-left (m .lo) (m .done) (m .pend) k (rw e at w))
+
+  -- block x has left the row: its records are to move
+  pub unlinked-moving : {clock : ℕ} (c : Cursor) (f : Memory) (l : List ℕ) → State s Due clock log (shape c f) → Useful s x now (shape c f) → clock ≤ now
+      → now < OPEN → 1 ≤ x → x < c .opened → view c f .closed x ≡ OPEN → Pending (recordsOf f) x 0 l
+      → let z = runOn (unlink c x now) f in Moving s Due now log x l (shape (z .0) (z .1))
+  unlinked-moving c f l i u later ends low inner o p =
+      let e = unlink-effect c f x now low in
+      subst⁻¹ (λ (S : Shape). Moving s Due now log x l S) (unlink-shape c x now f) (record {
+        state = left-row i e later ends low inner o;
+        useful = useful-close u e o;
+        closed-now = e .closed .here;
+        before = inner;
+        lo = 0;
+        done = λ k a. absurd (omega arith);
+        pend = p;
+      })
 
   moving-step : {k : ℕ} {l : List ℕ} {S : Shape} {middle records : Records} {midmarks marks : Marks} {directory : ℕ → ℕ}
       → Moving s Due now log x (k ∷ l) S
@@ -115,6 +121,7 @@ module _ {s : Settings} {Due : ℕ → Type 0} {now : ℕ} {log : Timeline} {x :
           → Moving s Due now log x l (appended S records marks directory)
       go lo done (one-more a o none q) = record {
         state = moved (m .state) e (omega (arith, m .closed-now)) o (omega (arith, m .before)) (omega (arith, m .before)) room;
+        useful = useful-move (m .useful) (e .ends) (e .begins) (m .closed-now);
         closed-now = m .closed-now;
         before = m .before;
         lo = k + 1;

@@ -2,23 +2,21 @@
 -- opening a block.
 use mathlib.Core.Path.{_≡_, refl, sym, ap, _∙_}
 use mathlib.Core.Logic.{_≢_}
-use mathlib.Core.Bool.{Bool, true, false, cond}
+use mathlib.Core.Bool.{cond}
 use Prim.Native.Nat.{ℕ, _+_}
 use lib.Dec.{eqb}
 use borrow.Author.Tests.{ne-eqb}
 use Rattle.base.specs.Branch.{cond-all, eqb-same}
 use Rattle.layout.specs.declared.settings.Settings.{Settings}
 use Rattle.layout.specs.declared.head.Cursor.{Cursor}
-use Rattle.layout.specs.declared.address.Address.{Address}
-use Rattle.layout.specs.declared.address.Address.the-variants.{Head, Time, Dir, Field, Bits, Slot}
+use Rattle.layout.specs.declared.address.Address.the-variants.{Dir, Bits, Slot}
 use Rattle.layout.specs.Sizes.{OPEN}
 use Rattle.layout.specs.Fields.{tagWord, readingWord, fromWord, toWord}
 use Rattle.layout.specs.Memory.{Memory}
 use Rattle.layout.specs.Program.{runOn}
-use Rattle.calls.specs.Placing.{placeOf, enterTime, openBlock, endRecord, putRecord}
+use Rattle.calls.specs.Placing.{placeOf, openBlock, endRecord, putRecord}
 use Rattle.theory.specs.Row.{Put}
-use Rattle.theory.specs.RunLaws.{framed}
-use Rattle.theory.specs.Effects.{put-is, enter-only}
+use Rattle.theory.specs.Effects.{put-is, enter-keeps}
 use Rattle.theory.specs.Records.{Records, endedAt, PutAt, Emptied}
 use Rattle.theory.specs.Marks.{Marks, PutBit, apart-false, bit-on, bit-out}
 
@@ -56,34 +54,23 @@ module _ (s : Settings) (c : Cursor) (now tag reading : ℕ) (f : Memory) where
   put-marks = bit-on (marksOf f) (c .opened) (c .fill)
 
 -- ---- a block opens
-abbrev isTime : Address → Bool
-isTime (Head j) = false
-isTime (Time l i) = true
-isTime (Dir t) = false
-isTime (Field n j) = false
-isTime (Bits n w) = false
-isTime (Slot n k i) = false
-
 module _ (c : Cursor) (now : ℕ) (f : Memory) where
-  enter-keeps : (a : Address) → isTime a ≡ false → (runOn (enterTime (c .opened) now) f) .1 a ≡ f a
-  enter-keeps a e = framed isTime (enterTime (c .opened) now) f (enter-only isTime (λ l i. refl) (c .opened) now) a e
-
   open-slot : (m k i : ℕ) → (runOn (openBlock c now) f) .1 (Slot m k i) ≡ cond (eqb (c .opened + 1) m) 0 (f (Slot m k i))
   unfolding openBlock
   open-slot m k i =
-      let e = ap (λ (x : ℕ). cond (eqb (c .opened + 1) m) 0 x) (enter-keeps (Slot m k i) refl) in
+      let e = ap (λ (x : ℕ). cond (eqb (c .opened + 1) m) 0 x) (enter-keeps (c .opened) now f (Slot m k i) refl) in
       cond-all (λ (z : Cursor × Memory). z .1 (Slot m k i) ≡ cond (eqb (c .opened + 1) m) 0 (f (Slot m k i))) (eqb (c .opened) 0) (λ t. e) (λ t. e)
 
   open-bits : (m w : ℕ) → (runOn (openBlock c now) f) .1 (Bits m w) ≡ cond (eqb (c .opened + 1) m) 0 (f (Bits m w))
   unfolding openBlock
   open-bits m w =
-      let e = ap (λ (x : ℕ). cond (eqb (c .opened + 1) m) 0 x) (enter-keeps (Bits m w) refl) in
+      let e = ap (λ (x : ℕ). cond (eqb (c .opened + 1) m) 0 x) (enter-keeps (c .opened) now f (Bits m w) refl) in
       cond-all (λ (z : Cursor × Memory). z .1 (Bits m w) ≡ cond (eqb (c .opened + 1) m) 0 (f (Bits m w))) (eqb (c .opened) 0) (λ t. e) (λ t. e)
 
   pub open-directory : (tag : ℕ) → directoryOf ((runOn (openBlock c now) f) .1) tag ≡ directoryOf f tag
   unfolding openBlock
   open-directory tag =
-      let e = enter-keeps (Dir tag) refl in
+      let e = enter-keeps (c .opened) now f (Dir tag) refl in
       cond-all (λ (z : Cursor × Memory). z .1 (Dir tag) ≡ f (Dir tag)) (eqb (c .opened) 0) (λ t. e) (λ t. e)
 
   pub open-marks-here : (w : ℕ) → marksOf ((runOn (openBlock c now) f) .1) (c .opened + 1) w ≡ 0

@@ -1,6 +1,6 @@
 -- Room in the acceptor. A full block closes with all its records going to an acceptor that has room for them (close-law); the old acceptor
 -- is judged once a block has opened (judge-law, roll-law); and so room is made (room-law). All laws hold in the midst of a change too.
-use mathlib.Core.Path.{_≡_, refl, _∙_, subst⁻¹}
+use mathlib.Core.Path.{_≡_, refl, ap, _∙_, subst⁻¹}
 use mathlib.Core.Bool.{true, _||_}
 use mathlib.Core.List.{List, _∷_}
 use Prim.Native.Nat.{ℕ, _+_, _≤_, _<_}
@@ -24,9 +24,9 @@ use Rattle.theory.specs.Records.{Records}
 use Rattle.theory.specs.Timeline.{Timeline}
 use Rattle.theory.specs.Marks.{Marks, Pending}
 use Rattle.theory.specs.PartEffects.{recordsOf, open-records}
-use Rattle.theory.specs.State.{Shape, shape, State, pending, state-later, left-row, unlink-shape, open-cursor, open-shape, opened-block}
-use Rattle.theory.specs.Moving.{appended, MovedAt, Moving, moved-all, move-effect, move-step}
-use Rattle.theory.specs.Useful.{Useful, useful-move, useful-open, useful-close, useful-judged, useful-all}
+use Rattle.theory.specs.State.{Shape, shape, State, pending, state-later, unlink-shape, open-cursor, open-shape, opened-block, appended}
+use Rattle.theory.specs.Moving.{MovedAt, Moving, moved-all, unlinked-moving, move-effect, move-step}
+use Rattle.theory.specs.Useful.{Useful, useful-open, useful-judged, useful-all}
 
 -- T differs from S at block x and above only
 pub record Beyond (x : ℕ) (S T : Shape) : Type 0 where
@@ -63,7 +63,6 @@ pub record Full (s : Settings) (Due : ℕ → Type 0) (x from clock : ℕ) (log 
 pub record Inner (s : Settings) (Due : ℕ → Type 0) (now : ℕ) (log : Timeline) (x : ℕ) (S₀ : Shape) (cap : ℕ) (rest : List ℕ) (S : Shape)
     : Type 0 where
   pub moving : Moving s Due now log x rest S
-  pub useful : Useful s 0 0 S
   pub beyond : Beyond x S₀ S
   pub room : S .fill + length rest ≤ cap
   pub opened : S .opened ≡ S₀ .opened
@@ -84,7 +83,6 @@ module _ {s : Settings} {Due : ℕ → Type 0} {now : ℕ} {log : Timeline} {x c
       let e = move-effect s c f now x k in
       record {
         moving = move-step k l c f (m .moving) (omega (arith, m .room));
-        useful = useful-move (m .useful) (e .ends) (e .begins) (m .moving .closed-now);
         beyond = beyond-then (m .beyond) (beyond-move e (m .moving .before)) (omega arith);
         room = omega (arith, m .room);
         opened = m .opened;
@@ -95,20 +93,14 @@ module _ {s : Settings} {Due : ℕ → Type 0} {now : ℕ} {log : Timeline} {x c
       → let z = runOn (unlink c x now) f in Inner s Due now log x (shape c f) cap l (shape (z .0) (z .1))
   inner-start c f l i u later ends low inner o p room =
       let e = unlink-effect c f x now low in
-      subst⁻¹ (λ (S : Shape). Inner s Due now log x (shape c f) cap l S) (unlink-shape c x now f) (record {
-        moving = record {
-          state = left-row i e later ends low inner o;
-          closed-now = e .closed .here;
-          before = inner;
-          lo = 0;
-          done = λ k y. absurd (omega arith);
-          pend = p;
-        };
-        useful = useful-close u e o;
-        beyond = record { records = λ n k a. refl; closed = λ n a. e .closed .other n (omega arith); grows = omega arith };
-        room = room;
-        opened = refl;
-      })
+      let same = unlink-shape c x now f in
+      record {
+        moving = unlinked-moving c f l i u later ends low inner o p;
+        beyond = subst⁻¹ (λ (S : Shape). Beyond x (shape c f) S) same
+            (record { records = λ n k a. refl; closed = λ n a. e .closed .other n (omega arith); grows = omega arith });
+        room = omega (arith, ap (λ (S : Shape). S .fill) same);
+        opened = ap (λ (S : Shape). S .opened) same;
+      }
 
 module _ {s : Settings} {Due : ℕ → Type 0} {log : Timeline} where
   pub close-law : {clock cap : ℕ} (c : Cursor) (f : Memory) (x now : ℕ) (l : List ℕ) → State s Due clock log (shape c f) → Useful s x now (shape c f)
@@ -119,7 +111,7 @@ module _ {s : Settings} {Due : ℕ → Type 0} {log : Timeline} where
       let z = runOn (unlink c x now) f in
       let m = each-walk (λ y (d : Cursor) (g : Memory). Inner s Due now log x (shape c f) cap y (shape d g)) (moveRecord s x now)
       (λ k y d g m. inner-step fits k y d g m) l (z .0) (z .1) (inner-start c f l i u later ends low inner o p room) in
-      record { state = moved-all (m .moving); useful = m .useful; beyond = m .beyond; room = omega (arith, m .room); opened = m .opened }
+      record { state = moved-all (m .moving); useful = m .moving .useful; beyond = m .beyond; room = omega (arith, m .room); opened = m .opened }
 
   -- judged: it closes, or has q standing
   pub judge-law : (c : Cursor) (f : Memory) (x now : ℕ) → State s Due now log (shape c f) → Useful s x now (shape c f) → Within s → 1 ≤ x

@@ -142,6 +142,25 @@ relinkedShape S w = record {
   fill = S .fill;
 }
 
+-- other records, bits and directory, with `fill` records in the acceptor; with one more than before; and a block more, which has none
+abbrev pub rewritten : Shape → ℕ → Records → Marks → (ℕ → ℕ) → Shape
+rewritten S fill records marks directory = record {
+  view = S .view;
+  times = S .times;
+  records = records;
+  marks = marks;
+  directory = directory;
+  opened = S .opened;
+  fill = fill;
+}
+
+abbrev pub appended : Shape → Records → Marks → (ℕ → ℕ) → Shape
+appended S records marks directory = rewritten S (S .fill + 1) records marks directory
+
+abbrev pub openedShape : Shape → View → (ℕ → ℕ → ℕ) → Records → Marks → Shape
+openedShape S w times records marks =
+    record { view = w; times = times; records = records; marks = marks; directory = S .directory; opened = S .opened + 1; fill = 0 }
+
 pub unlink-shape : (c : Cursor) (x now : ℕ) (f : Memory)
     → let z = runOn (unlink c x now) f in shape (z .0) (z .1) ≡ relinkedShape (shape c f) (view (z .0) (z .1))
 unfolding unlink
@@ -172,15 +191,7 @@ open-cursor c now f =
     (λ t. (refl, refl)) (λ t. (refl, refl))
 
 pub open-shape : (c : Cursor) (now : ℕ) (f : Memory) → let z = runOn (openBlock c now) f in
-    shape (z .0) (z .1) ≡ record {
-      view = view (z .0) (z .1);
-      times = times (z .1);
-      records = recordsOf (z .1);
-      marks = marksOf (z .1);
-      directory = directoryOf f;
-      opened = c .opened + 1;
-      fill = 0;
-    }
+    shape (z .0) (z .1) ≡ openedShape (shape c f) (view (z .0) (z .1)) (times (z .1)) (recordsOf (z .1)) (marksOf (z .1))
 open-shape c now f = let z = runOn (openBlock c now) f in
     λ i. record {
       view = view (z .0) (z .1);

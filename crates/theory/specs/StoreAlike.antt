@@ -18,6 +18,7 @@ use Rattle.calls.specs.Claims.{Alike, StoreAlike}
 use Rattle.theory.specs.AlikeReaders.{SameBlock, SamePage, look-alike}
 use Rattle.theory.specs.Passes.{PassTold, passed-pages, page-word}
 use Rattle.theory.specs.ViewClaims.{Seen, shown-seen, few-blocks}
+use lib.Dec.{lit≤}
 
 -- ---- the head is in the first 16 words
 
@@ -25,34 +26,17 @@ module _ (ws ws′ : List ℕ) (e : take headLen ws′ ≡ take headLen ws) wher
   word-same : (j : ℕ) → j < headLen → getD ws′ j 0 ≡ getD ws j 0
   word-same j h = sym (getD-take headLen ws′ j 0 h) ∙ ap (λ (l : List ℕ). getD l j 0) e ∙ getD-take headLen ws j 0 h
 
-  pub head-same : headOf ws′ ≡ headOf ws
+  head-same : headOf ws′ ≡ headOf ws
   unfolding headOf
   head-same =
-      rw (
-        word-same 1 (omega arith),
-        word-same 2 (omega arith),
-        word-same 3 (omega arith),
-        word-same 4 (omega arith),
-        word-same 5 (omega arith),
-        word-same 6 (omega arith),
-        word-same 7 (omega arith),
-        word-same 8 (omega arith),
-        word-same 9 (omega arith),
-      )
+      let w = word-same in
+      rw (w 1 (lit≤ tt), w 2 (lit≤ tt), w 3 (lit≤ tt), w 4 (lit≤ tt), w 5 (lit≤ tt), w 6 (lit≤ tt), w 7 (lit≤ tt), w 8 (lit≤ tt), w 9 (lit≤ tt))
 
-  pub bad-head-same : badHead ws′ ≡ badHead ws
+  bad-head-same : badHead ws′ ≡ badHead ws
   unfolding badHead
   bad-head-same =
-      rw (
-        head-same,
-        word-same 0 (omega arith),
-        word-same 10 (omega arith),
-        word-same 11 (omega arith),
-        word-same 12 (omega arith),
-        word-same 13 (omega arith),
-        word-same 14 (omega arith),
-        word-same 15 (omega arith),
-      )
+      let w = word-same in
+      rw (head-same, w 0 (lit≤ tt), w 10 (lit≤ tt), w 11 (lit≤ tt), w 12 (lit≤ tt), w 13 (lit≤ tt), w 14 (lit≤ tt), w 15 (lit≤ tt))
 
 -- ---- the reply is the same
 

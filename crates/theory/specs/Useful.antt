@@ -16,8 +16,7 @@ use Rattle.theory.specs.Row.{Unlinked, Opened}
 use Rattle.theory.specs.Records.{Record, Records, Stands, endedAt, begunAt, place?, PutAt, Emptied}
 use Rattle.theory.specs.Timeline.{Timeline}
 use Rattle.theory.specs.Marks.{Marks}
-use Rattle.theory.specs.State.{Shape, State, stands-on, relinkedShape}
-use Rattle.theory.specs.Moving.{appended}
+use Rattle.theory.specs.State.{Shape, State, stands-on, relinkedShape, rewritten, appended, openedShape}
 
 -- at least m numbers from lo on have p
 pub data AtLeast (p : ℕ → Type 0) : ℕ → ℕ → Type 0 where
@@ -62,15 +61,7 @@ module _ {s : Settings} where
   -- a record of block n ends: the block is to be judged
   pub useful-end : {now n k : ℕ} {S : Shape} {records : Records} {marks : Marks} {directory : ℕ → ℕ} → Useful s 0 0 S
       → PutAt (S .records) records n k (endedAt now (S .records n k))
-      → Useful s n now (record {
-        view = S .view;
-        times = S .times;
-        records = records;
-        marks = marks;
-        directory = directory;
-        opened = S .opened;
-        fill = S .fill;
-      })
+      → Useful s n now (rewritten S (S .fill) records marks directory)
   useful-end {n = n} {k} {S} u e = record {
     at = λ t m a b d f g h. at-least-map (λ j w. place? n k m j
         (λ i i′.
@@ -80,17 +71,9 @@ module _ {s : Settings} where
   }
 
   -- a block opens: the one before it is to be judged
-  pub useful-open : {now : ℕ} {S : Shape} {w : View} {records : Records} {marks : Marks} {directory : ℕ → ℕ} {times : ℕ → ℕ → ℕ} → Useful s 0 0 S
+  pub useful-open : {now : ℕ} {S : Shape} {w : View} {records : Records} {marks : Marks} {times : ℕ → ℕ → ℕ} → Useful s 0 0 S
       → Opened (S .view) w (S .opened) now → Emptied (S .records) records (S .opened + 1)
-      → Useful s (S .opened) now (record {
-        view = w;
-        times = times;
-        records = records;
-        marks = marks;
-        directory = directory;
-        opened = S .opened + 1;
-        fill = 0;
-      })
+      → Useful s (S .opened) now (openedShape S w times records marks)
   useful-open {now} {S} {w} u e m = record {
     at = λ t n a b d f g h. is? n (S .opened)
         (λ z. let new : w .opened (n + 1) ≡ now = rw z (e .opened .here) in absurd (omega (arith, h z)))
