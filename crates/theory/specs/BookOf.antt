@@ -16,9 +16,7 @@ use Rattle.theory.specs.Tree.{View}
 use Rattle.theory.specs.Row.{Unlinked, Opened}
 use Rattle.theory.specs.Records.{Record, Records, endedAt, begunAt, Apart, place?, PutAt, Emptied}
 use Rattle.theory.specs.State.{Shape}
-use Rattle.theory.specs.BookLaws.{noted}
-use Rattle.theory.specs.BookTable.{tabulate, tabulate-none, tabulate-same, tabulate-more, ended-table, ends-table}
-use Rattle.theory.specs.BookTable.{on-table, opens-table, appends-table}
+use Rattle.theory.specs.BookLaws.{noted, tabulate, tabulate-none, tabulate-same, tabulate-more, ended-table, ends-table, on-table, opens-table, appends-table}
 
 module _ (S : Shape) where
   abbrev pub entryOf : ℕ → ℕ → Entry

@@ -14,9 +14,7 @@ use Rattle.layout.specs.Sizes.{OPEN}
 use Rattle.calls.specs.Book.{standingTags, entriesOf, lastOf, holds, holderOf, recordsIn}
 use Rattle.theory.specs.Marks.{Pending, no-more, one-more}
 use Rattle.theory.specs.State.{Shape}
-use Rattle.theory.specs.BookTable.{tabulate, tabulate-none, length-tabulate, holds-table, lacks-table, standing-table, entries-table}
-use Rattle.theory.specs.BookTable.{last-table}
-use Rattle.theory.specs.BookTable.{holder-table, records-table}
+use Rattle.theory.specs.BookLaws.{tabulate, tabulate-none, length-tabulate, holds-table, lacks-table, standing-table, entries-table, last-table, holder-table, records-table}
 use Rattle.theory.specs.BookOf.{entryOf, sizeOf, blockAt, blocksOf, last-size, full-size}
 
 module _ (b : ℕ) (S : Shape) where

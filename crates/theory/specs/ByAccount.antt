@@ -34,9 +34,8 @@ use Rattle.theory.specs.State.{free, not-found}
 use Rattle.theory.specs.SoFar.{so-far, among-none, none-among, never-shows}
 use Rattle.theory.specs.LogLaws.{readings}
 use Rattle.theory.specs.Foretelling.{set-foretold, clear-foretold, update-foretold}
-use Rattle.theory.specs.Rest.{headWith, copiesOf}
+use Rattle.theory.specs.Rest.{headWith, copiesOf, booked-length, booked-set, booked-clear, booked-update}
 use Rattle.theory.specs.Sound.{set-sound, clear-sound, same-copies}
-use Rattle.theory.specs.BookCalls.{booked-length, booked-set, booked-clear, booked-update}
 use Rattle.theory.specs.Right.{walk-sound}
 use Rattle.theory.specs.Stored.{head-passes}
 use Rattle.theory.specs.TestLaws.{Alike, same, both, idle, alike-free, free-alike, alike-first, lacks, never-first}

@@ -32,7 +32,7 @@ use Rattle.calls.specs.Claims.{First, EveryCall, NoView, KindOf, lentBy, zeroed
 use Rattle.calls.specs.Step.{step, testsOf, reply, change, set, clear, update, advance, start, wordsRead}
 use Rattle.safety.specs.Goes.{Goes}
 use Rattle.safety.specs.CallSafe.{Next, next-head, advance-goes, set-goes, clear-call-goes, update-goes}
-use Rattle.theory.specs.Started.{started, started-length}
+use Rattle.theory.specs.Fresh.{started, started-length}
 use Rattle.theory.specs.TestLaws.{numbered, Decided, free, turned, refused, clash}
 use Rattle.theory.specs.HeadKept.{HeadMoved, set-head, clear-head, update-head, advance-head}
 use Rattle.theory.specs.Stored.{Stored, Left, stored-run}

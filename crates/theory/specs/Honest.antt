@@ -22,8 +22,7 @@ use Rattle.calls.specs.History.{Account}
 use Rattle.calls.specs.Claims.{Agrees}
 use Rattle.theory.specs.Effects.{view}
 use Rattle.theory.specs.LogLaws.{Once, readings}
-use Rattle.theory.specs.Rest.{Rest, headWith}
-use Rattle.theory.specs.BookCalls.{Booked, booked-block, booked-useful, booked-length, booked-opened, booked-closed, booked-records}
+use Rattle.theory.specs.Rest.{Rest, headWith, Booked, booked-block, booked-useful, booked-length, booked-opened, booked-closed, booked-records}
 use Rattle.theory.specs.Counting.{Counted, counted-bound}
 use Rattle.theory.specs.SoFar.{Timed}
 use Rattle.theory.specs.Stored.{Stored, stored-at}

@@ -37,14 +37,12 @@ use Rattle.theory.specs.Timeline.{Timeline, told-alike, none}
 use Rattle.theory.specs.State.{free, state-as}
 use Rattle.theory.specs.LogLaws.{Once, readings, once-empty, once-set, once-clear, once-update, readings-set, readings-clear, readings-update}
 use Rattle.theory.specs.SoFar.{Timed, timed-none, timed-later, timed-more}
-use Rattle.theory.specs.Rest.{Rest, rest-fresh, rest-advance, rest-set, rest-clear, rest-update, headWith}
-use Rattle.theory.specs.Fresh.{freshMemory}
+use Rattle.theory.specs.Rest.{Rest, rest-fresh, rest-advance, rest-set, rest-clear, rest-update, headWith, Booked, booked-fresh, booked-advance, booked-set, booked-clear, booked-update}
+use Rattle.theory.specs.Fresh.{freshMemory, started}
 use Rattle.theory.specs.Sound.{set-sound, clear-sound, same-copies}
-use Rattle.theory.specs.BookCalls.{Booked, booked-fresh, booked-advance, booked-set, booked-clear, booked-update}
 use Rattle.theory.specs.Counting.{Counted, counted-empty, counted-set, counted-clear, counted-update}
 use Rattle.theory.specs.HeadKept.{HeadMoved, set-head, clear-head, update-head, advance-head}
 use Rattle.theory.specs.Stored.{stored-run}
-use Rattle.theory.specs.Started.{started}
 use Rattle.theory.specs.TestLaws.{refusal-none}
 use Rattle.theory.specs.EveryLookBack.{every-call}
 use Rattle.theory.specs.Honest.{Honest, head-is, word-is}

@@ -22,7 +22,7 @@ use Rattle.theory.specs.LogLaws.{row-discrete}
 use Rattle.theory.specs.MemberLaws.{unique-nodup}
 use Rattle.theory.specs.RecordRows.{rows-log}
 use Rattle.theory.specs.EnoughRows.{rows-enough}
-use Rattle.theory.specs.BookCalls.{booked-useful, booked-open-at}
+use Rattle.theory.specs.Rest.{booked-useful, booked-open-at}
 use Rattle.theory.specs.Right.{RightLook, blocksOpen, walk-right}
 use Rattle.theory.specs.ViewClaims.{view-claims}
 use Rattle.theory.specs.EveryLookBack.{every-call}

@@ -7,7 +7,6 @@ pub mod Times
 -- Records, their log, the directory and the standing bits
 pub mod Records
 pub mod Timeline
-pub mod Directory
 pub mod Marks
 pub mod PartEffects
 -- The invariant, in the middle of a change and at rest
@@ -24,32 +23,25 @@ pub mod Foretelling
 -- Refusal 12 has no case on a register at rest
 pub mod Sound
 -- The plain log
-pub mod SumLaws
 pub mod MemberLaws
-pub mod Joined
 pub mod LogLaws
 pub mod SoFar
 pub mod RecordRows
 pub mod EnoughRows
 -- The block book
 pub mod BookLaws
-pub mod BookTable
 pub mod Layers
 pub mod Counting
 pub mod BookOf
 pub mod BookReads
 pub mod BookRoll
 pub mod BookChange
-pub mod BookCalls
 -- The look-back, over any reader
 pub mod FoundWalk
 pub mod Listed
-pub mod FoundSearch
 pub mod SearchLaws
 pub mod WalkTree
-pub mod Looking
 pub mod Right
-pub mod AlikeReaders
 pub mod Passes
 pub mod ViewClaims
 pub mod StoreAlike
@@ -57,7 +49,6 @@ pub mod StoreAlike
 pub mod TestLaws
 pub mod HeadKept
 pub mod Stored
-pub mod Started
 pub mod OneChange
 pub mod EveryCall
 pub mod QueryLaws

@@ -16,9 +16,8 @@ use Rattle.layout.specs.Program.{runOn}
 use Rattle.calls.specs.Placing.{placeOf, unlink, endRecord, putRecord, moveRecord}
 use Rattle.theory.specs.Row.{Put}
 use Rattle.theory.specs.Effects.{view, put-is, unlink-effect}
-use Rattle.theory.specs.Records.{Record, Records, endedAt, begunAt, place?, PutAt, kept-put, kept-end}
+use Rattle.theory.specs.Records.{Record, Records, endedAt, begunAt, place?, PutAt, kept-put, kept-end, found-put, found-end}
 use Rattle.theory.specs.Timeline.{Timeline, told-move}
-use Rattle.theory.specs.Directory.{found-put, found-end}
 use Rattle.theory.specs.Marks.{Marks, PutBit, marked-at, Pending, no-more, one-more, pending-frame}
 use Rattle.theory.specs.PartEffects.{recordsOf, marksOf, directoryOf, end-records, end-marks, put-records, put-directory, put-marks}
 use Rattle.theory.specs.State.{Shape, shape, State, appended, left-row, unlink-shape, DueAnd, next-unused, stands-on, alone, state-as}

@@ -16,9 +16,8 @@ use Rattle.calls.specs.Calls.{Row}
 use Rattle.calls.specs.Walk.{Reader, Pass, entries, topLevel, lookUp, looked, look}
 use Rattle.calls.specs.LookBack.{passedOn, viewOf}
 use Rattle.calls.specs.Claims.{passedPages}
-use Rattle.theory.specs.FoundSearch.{Descent, ground, down, Search, empty, before, onto}
+use Rattle.theory.specs.FoundWalk.{Descent, ground, down, Search, empty, before, onto, look-parts}
 use Rattle.theory.specs.SearchLaws.{Last, nowhere, at, last-is, top-below}
-use Rattle.theory.specs.Looking.{look-parts}
 use Rattle.theory.specs.Listed.{path-apart}
 
 -- passes whose levels fall from below l on, and whose page numbers are below 4,096

@@ -20,9 +20,7 @@ use Rattle.calls.specs.Walk.{rowOf, rowsOf}
 use Rattle.theory.specs.Tree.{View}
 use Rattle.theory.specs.Records.{Record, Records, Stands, Kept}
 use Rattle.theory.specs.Timeline.{Timeline, Told, Reading, some}
-use Rattle.theory.specs.SumLaws.{sumTo-below}
-use Rattle.theory.specs.MemberLaws.{unique-nil, Among, all-members, same-members}
-use Rattle.theory.specs.Joined.{joined, joined-nil, total-joined, joined-members, members-joined, unique-joined}
+use Rattle.theory.specs.MemberLaws.{unique-nil, Among, all-members, same-members, sumTo-below, joined, joined-nil, total-joined, joined-members, members-joined, unique-joined}
 use Rattle.theory.specs.LogLaws.{readings, reading-member, member-reading, UniqueTags, Once}
 
 abbrev pub rowOfRecord : Record → Row

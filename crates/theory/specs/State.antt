@@ -21,9 +21,8 @@ use Rattle.theory.specs.Tree.{View}
 use Rattle.theory.specs.Row.{Linked, Unlinked, unlinked, opened, later}
 use Rattle.theory.specs.Effects.{view, put-is, open-effect}
 use Rattle.theory.specs.Times.{Indexed, indexed-open, indexed-same, times, open-enters}
-use Rattle.theory.specs.Records.{Record, Records, Stands, place?, Kept, kept-later, kept-put, kept-end, kept-unlink, kept-open}
+use Rattle.theory.specs.Records.{Record, Records, Stands, place?, Kept, kept-later, kept-put, kept-end, kept-unlink, kept-open, Found, found-put, found-end, found-open}
 use Rattle.theory.specs.Timeline.{Timeline, Told, told-put, told-end, told-open, Reading, none, some, logged}
-use Rattle.theory.specs.Directory.{Found, found-put, found-end, found-open}
 use Rattle.theory.specs.Marks.{Marks, Marked, marked-at, marked-open, Pending, pending-slots}
 use Rattle.theory.specs.PartEffects.{recordsOf, directoryOf, marksOf, end-records, end-marks, put-records, put-directory, put-marks}
 use Rattle.theory.specs.PartEffects.{open-directory, open-marks-here, open-marks-other, open-records}

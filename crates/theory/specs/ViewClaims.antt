@@ -22,7 +22,7 @@ use Rattle.calls.specs.LookBack.{SliceReply, reader, lookAt, lookBack, viewOf, 
 use Rattle.calls.specs.Step.{step}
 use Rattle.calls.specs.Claims.{passedPages}
 use Rattle.theory.specs.Listed.{path-apart}
-use Rattle.theory.specs.Looking.{look-parts}
+use Rattle.theory.specs.FoundWalk.{look-parts}
 use Rattle.theory.specs.Passes.{passes-counted}
 
 -- ---- a look-back that is answered
