@@ -1,6 +1,6 @@
 -- THE BOOK AFTER A CHANGE: the book that the store shows after a record is placed or a tag is cleared is the one that document 01's rules make of the
 -- book before (set-book, clear-book); a new reading is the one after the other.
-use mathlib.Core.Path.{_≡_, refl, sym, ap, ap₂, _∙_}
+use mathlib.Core.Path.{_≡_, sym, ap, ap₂, _∙_}
 use mathlib.Core.Logic.{_≢_}
 use mathlib.Core.List.{List, _∷_, map}
 use Prim.Native.Nat.{ℕ, _-_, _≤_, _<_}
@@ -87,8 +87,7 @@ clear-ends : {s : Settings} {Due : ℕ → Type 0} {clock : ℕ} {log : Timeline
     → blocksIn s (shape c (clearedAt n k now tag f)) ≡ onBlock (n - 1) (endsIn tag) (blocksIn s (shape c f))
 unfolding endRecord
 clear-ends {s} c f n k now tag i ends low o is-tag =
-    book-ends (s .block) (shape c f) (shape c (clearedAt n k now tag f)) (end-records n k now f) ends low
-    (λ j w t. alone i n k n j o w t .1) refl refl refl
+    book-ends (s .block) (shape c f) (end-records n k now f) ends low (λ j w t. alone i n k n j o w t .1)
     ∙ ap (λ (g : ℕ). onBlock (n - 1) (endsIn g) (blocksIn s (shape c f))) is-tag
 
 -- block numbers from 1 and from 0

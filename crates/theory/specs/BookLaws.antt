@@ -1,6 +1,6 @@
 -- WHAT THE BOOK'S STEPS DO: to a list that ends in a known block; and to a book as a table, a list by a function of its places, as steps on that function:
 -- a law for a step names the function before and the function after, and asks only how they differ.
-use mathlib.Core.Path.{_≡_, refl, ap, _∙_, sym, ap₂}
+use mathlib.Core.Path.{_≡_, refl, ap, _∙_, ap₂}
 use mathlib.Core.Bool.{true, Bool, false, cond, not, _&&_, _||_, or-true}
 use mathlib.Core.List.{List, [], _∷_, _++_, map}
 use mathlib.Core.Logic.{_≢_}
@@ -193,12 +193,6 @@ last-table n p = ap (λ (m : ℕ). m - 1) (length-tabulate n p)
 pub opens-table : (n s : ℕ) {p q : ℕ → Block} → ((i : ℕ) → i < n → q i ≡ p i) → q n ≡ record { opened = s; closed = OPEN; entries = [] }
     → tabulate (n + 1) q ≡ opensAt s (tabulate n p)
 opens-table n s {p} {q} h e = tabulate-more n h ∙ ap (λ (k : Block). tabulate n p ++ (k ∷ [])) e
-
--- a tag goes to the end of the last
-pub appends-table : (n tag : ℕ) {p q : ℕ → Block} → 0 < n → q (n - 1) ≡ noted tag (p (n - 1)) → ((i : ℕ) → i < n - 1 → q i ≡ p i)
-    → tabulate n q ≡ appends tag (tabulate n p)
-appends-table n tag {p} h e o =
-    on-table n (n - 1) (noted tag) (λ a. e) (λ j a d. o j (omega arith)) ∙ ap (λ (i : ℕ). onBlock i (noted tag) (tabulate n p)) (sym (last-table n p))
 
 -- the first block that holds the tag
 pub holder-table : (n i tag : ℕ) (p : ℕ → Block) → i < n → holds tag (p i .entries) ≡ true → ((j : ℕ) → j < i → holds tag (p j .entries) ≡ false)

@@ -27,7 +27,7 @@ use Rattle.theory.specs.Records.{Record}
 use Rattle.theory.specs.Timeline.{Timeline}
 use Rattle.theory.specs.Marks.{Pending}
 use Rattle.theory.specs.PartEffects.{recordsOf, put-records, open-records}
-use Rattle.theory.specs.State.{Shape, shape, State, pending, relinkedShape, unlink-shape}
+use Rattle.theory.specs.State.{Shape, shape, State, pending, unlink-shape, open-shape}
 use Rattle.theory.specs.Moving.{move-effect}
 use Rattle.theory.specs.Useful.{Useful}
 use Rattle.theory.specs.Rolling.{Full, Inner, inner-start, inner-step, grown-law, room-law, no-room}
@@ -61,7 +61,7 @@ module _ (s : Settings) where
       let z = runOn (putRecord s c now tag reading) f in
       let p = put-records s c now tag reading f in
       let r : Record = record { tag = tag; reading = reading; from = now; to = OPEN } in
-      book-appends (s .block) (shape c f) (shape (z .0) (z .1)) r some refl refl refl o refl (p .here)
+      book-appends (s .block) (shape c f) (recordsOf (z .1)) r some o refl (p .here)
       (λ m k d. entry-same (shape c f) (shape (z .0) (z .1)) m k refl (p .other m k d))
 
   -- ---- a record of a closed block moves
@@ -70,9 +70,8 @@ module _ (s : Settings) where
         → let z = runOn (moveRecord s x now k c) f in blocksIn s (shape (z .0) (z .1)) ≡ appends (f (Slot x k tagWord)) (blocksIn s (shape c f))
     unfolding moveRecord endRecord putRecord
     move-book o d =
-        let z = runOn (moveRecord s x now k c) f in
         let e = move-effect s c f now x k in
-        book-moves (s .block) (shape c f) (shape (z .0) (z .1)) (omega arith) o d (e .ends) (e .begins) refl refl refl
+        book-moves (s .block) (shape c f) (omega arith) o d (e .ends) (e .begins)
 
     pub move-tags : let z = runOn (moveRecord s x now k c) f in (j : ℕ) → z .1 (Slot x j tagWord) ≡ f (Slot x j tagWord)
     unfolding moveRecord endRecord putRecord
@@ -81,11 +80,7 @@ module _ (s : Settings) where
   -- ---- a block leaves the row
   module _ (c : Cursor) (f : Memory) (x now : ℕ) (low : 1 ≤ x) (ends : now < OPEN) where
     pub unlink-book : let z = runOn (unlink c x now) f in blocksIn s (shape (z .0) (z .1)) ≡ onBlock (x - 1) (closesAt now) (blocksIn s (shape c f))
-    unlink-book =
-        let z = runOn (unlink c x now) f in
-        ap (blocksIn s) (unlink-shape c x now f)
-        ∙ book-closes (s .block) (shape c f) (relinkedShape (shape c f) (view (z .0) (z .1))) (unlink-effect c f x now low) ends low
-        (λ n k. refl) refl refl
+    unlink-book = ap (blocksIn s) (unlink-shape c x now f) ∙ book-closes (s .block) (shape c f) (unlink-effect c f x now low) ends low
 
     -- its records are then to be written
     pub unlink-writing : {Walk : List ℕ → Shape → Type 0} (write : Write) (l : List ℕ)
@@ -167,7 +162,7 @@ module _ (s : Settings) where
         let blocks = blocksIn s (shape c f) in
         let o = grown-law c f now i later ends full in
         let new : blocksIn s (shape (z .0) (z .1)) ≡ opensAt now blocks =
-        book-opens (s .block) (shape c f) (shape (z .0) (z .1)) (open-effect c f now) (open-records c now f) full (o .opened) (o .fill) in
+        ap (blocksIn s) (open-shape c now f) ∙ book-opens (s .block) (shape c f) (open-effect c f now) (open-records c now f) full in
         cond-rel (λ (y : Cursor × Memory) (k : List Block). blocksIn s (shape (y .0) (y .1)) ≡ k)
         (ap (λ (m : ℕ). eqb m 0) (sym (book-length (s .block) (shape c f))))
         (λ e. new)

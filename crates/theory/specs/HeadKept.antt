@@ -16,7 +16,7 @@ use Rattle.layout.specs.Memory.{Memory}
 use Rattle.layout.specs.Program.{Prog, ret, bind, each, runOn}
 use Rattle.layout.specs.Cursor.{storeCursor}
 use Rattle.calls.specs.Placing.{openBlock, unlink, endRecord, standing, putRecord, moveRecord, closeFull, judgeFull, roll, makeRoom, place, replace, close, judge, clearTag, finish, setProgram, clearProgram, updateProgram, advanceProgram}
-use Rattle.theory.specs.RunLaws.{Only, framed}
+use Rattle.theory.specs.RunLaws.{Only, framed, met, _then_}
 use Rattle.theory.specs.Effects.{enter-only}
 
 -- every word but the head's
@@ -47,20 +47,9 @@ only-open c now = (enter-only headless (λ l i. refl) (c .opened) now, λ _. ((o
 
 only-unlink : (c : Cursor) (x now : ℕ) → Only headless (unlink c x now)
 unfolding unlink
-only-unlink c x now = (
-  (λ v. tt),
-  λ _. (
-    (λ v. tt),
-    λ _. (
-      (refl, tt),
-      λ _. (
-        (refl, tt),
-        λ _.
-            (((refl, tt), λ _. tt), ((λ v. tt), λ _. ((refl, tt), λ _. ((refl, tt), λ _. ((refl, tt), λ _. tt))))),
-      ),
-    ),
-  ),
-)
+only-unlink c x now =
+    (λ v. tt) then λ _. (λ v. tt) then λ _. met refl then λ _. met refl then λ _.
+    (met refl then λ _. tt) then (λ v. tt) then λ _. met refl then λ _. met refl then λ _. met refl then λ _. tt
 
 only-end : (n k now : ℕ) → Only headless (endRecord n k now)
 unfolding endRecord

@@ -1,6 +1,6 @@
 -- The records of a closed block move to the acceptor, one at a time: the invariant in the midst of it (Moving), with the list of the slots
 -- that are left, and a step of it (move-step). With none left the invariant holds as before (moved-all).
-use mathlib.Core.Path.{_≡_, refl, sym, ap, _∙_, subst⁻¹}
+use mathlib.Core.Path.{_≡_, refl, sym, _∙_, subst⁻¹}
 use mathlib.Core.Logic.{_≢_, inl, inr}
 use mathlib.Core.List.{List, [], _∷_}
 use Prim.Native.Nat.{ℕ, _+_, _≤_, _<_}
@@ -16,12 +16,14 @@ use Rattle.layout.specs.Program.{runOn}
 use Rattle.calls.specs.Placing.{placeOf, unlink, endRecord, putRecord, moveRecord}
 use Rattle.theory.specs.Row.{Put}
 use Rattle.theory.specs.Effects.{view, put-is, unlink-effect}
-use Rattle.theory.specs.Records.{Record, Records, endedAt, begunAt, place?, PutAt, kept-put, kept-end, found-put, found-end}
-use Rattle.theory.specs.Timeline.{Timeline, told-move}
-use Rattle.theory.specs.Marks.{Marks, PutBit, marked-at, Pending, no-more, one-more, pending-frame}
+use Rattle.theory.specs.Records.{Records, endedAt, begunAt, PutAt}
+use Rattle.theory.specs.Timeline.{Timeline, told-alike, moved-log}
+use Rattle.theory.specs.Marks.{Marks, PutBit, Pending, no-more, one-more, pending-frame}
 use Rattle.theory.specs.PartEffects.{recordsOf, marksOf, directoryOf, end-records, end-marks, put-records, put-directory, put-marks}
-use Rattle.theory.specs.State.{Shape, shape, State, appended, left-row, unlink-shape, DueAnd, next-unused, stands-on, alone, state-as}
+use Rattle.theory.specs.State.{Shape, shape, State, appended, left-row, unlink-shape, begin-state, end-state, DueAnd, stands-on, state-as}
 use Rattle.theory.specs.Useful.{Useful, useful-move, useful-close}
+use lib.Dec.{eqb}
+use mathlib.Core.Bool.{cond}
 
 -- from S, the record of slot k of block x ends at second now (middle, midmarks) and begins anew in the acceptor's next slot, where the
 -- directory finds it
@@ -35,34 +37,16 @@ pub record MovedAt (s : Settings) (S : Shape) (now x k : ℕ) (middle records : 
 module _ {s : Settings} {Due : ℕ → Type 0} {now : ℕ} {log : Timeline} {S : Shape} {x k : ℕ} {middle records : Records} {midmarks marks : Marks}
     {directory : ℕ → ℕ} where
   moved : State s Due now log S → MovedAt s S now x k middle records midmarks marks directory → now ≤ S .view .closed x → S .records x k .to ≡ OPEN
-      → x ≢ S .opened → 1 ≤ S .opened → S .fill < s .block → State s Due now log (appended S records marks directory)
-  moved i e closes o other low room =
-      let stands = stands-on i x k now o (omega arith) (i .past) in
-      let unused : middle (S .opened) (S .fill) .to ≡ 0 =
-      ap (λ (r : Record). r .to) (e .ends .other (S .opened) (S .fill) (λ z. other (sym (z .0)))) ∙ next-unused i in
-      let good = i .kept .good x k (i .kept .used x k (omega (arith, i .past))) in
+      → 1 ≤ S .opened → S .fill < s .block → State s Due now log (appended S records marks directory)
+  moved i e closes o low room =
+      let known = i .kept .good x k (i .kept .used x k (omega (arith, i .past))) .known in
       let none = put-is (S .directory) (S .records x k .tag) 0 in
-      record {
-        past = i .past;
-        links = i .links;
-        index = i .index;
-        kept = kept-put (kept-end (i .kept) (e .ends) (omega arith) closes o (i .past)) (e .begins) (omega arith) refl refl (good .known)
-            (i .links .opened (S .opened) low (omega arith)) low room (i .past);
-        marked = marked-at
-            (marked-at (i .marked) (e .mark-off) (e .ends) (λ z. absurd (omega arith)) (λ z. absurd (omega (arith, i .past))))
-            (e .mark-on) (e .begins)
-            (λ z. refl) (λ z. refl);
-        found = found-put (found-end (i .found) (e .ends) o (i .past) (λ m j w t. alone i x k m j o w t) none) (e .begins) refl unused (none .here)
-            (record { here = e .finds .here; other = λ y d. e .finds .other y d ∙ sym (none .other y d) });
-        told = told-move (i .told) (e .ends) (stands .begun) o (i .past) (e .begins) unused;
-        calm = λ m j d w. place? (S .opened) (S .fill) m j
-            (λ y z. absurd (d (rw y (i .links .last))))
-            (λ y.
-            let q = e .begins .other m j y in
-            place? x k m j
-            (λ y′ z′. let h : now ≡ OPEN = rw (q, y′, z′, e .ends .here) at w in absurd (omega (arith, i .past)))
-            (λ y′. i .calm m j d (rw (q, e .ends .other m j y′) at w)));
-      }
+      let finds : Put (λ n. cond (eqb (S .records x k .tag) n) 0 (S .directory n)) directory (S .records x k .tag) (placeOf s (S .opened) (S .fill)) =
+      record { here = e .finds .here; other = λ y d. e .finds .other y d ∙ sym (none .other y d) } in
+      let ended = end-state i (omega arith) (i .past) (e .ends) (e .mark-off) none o closes in
+      let begun = begin-state ended (omega arith) (i .past) (e .begins) (e .mark-on) finds refl refl known (none .here) low room in
+      let same = moved-log x k (i .told) (stands-on i x k now o (omega arith) (i .past) .begun) o (i .past) in
+      state-as begun (omega arith) (i .past) (told-alike same (begun .told)) (begun .calm)
 
 -- in the midst of moving the records of block x, which closed at second now; the slots `rest` are left, from lo on
 pub record Moving (s : Settings) (Due : ℕ → Type 0) (now : ℕ) (log : Timeline) (x : ℕ) (rest : List ℕ) (S : Shape) : Type 0 where
@@ -119,7 +103,7 @@ module _ {s : Settings} {Due : ℕ → Type 0} {now : ℕ} {log : Timeline} {x :
       go : (lo : ℕ) → ((j : ℕ) → j < lo → S .records x j .to ≢ OPEN) → Pending (S .records) x lo (k ∷ l)
           → Moving s Due now log x l (appended S records marks directory)
       go lo done (one-more a o none q) = record {
-        state = moved (m .state) e (omega (arith, m .closed-now)) o (omega (arith, m .before)) (omega (arith, m .before)) room;
+        state = moved (m .state) e (omega (arith, m .closed-now)) o (omega (arith, m .before)) room;
         useful = useful-move (m .useful) (e .ends) (e .begins) (m .closed-now);
         closed-now = m .closed-now;
         before = m .before;
