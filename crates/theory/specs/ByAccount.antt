@@ -34,7 +34,7 @@ use Rattle.theory.specs.State.{free, not-found}
 use Rattle.theory.specs.SoFar.{so-far, among-none, none-among, never-shows}
 use Rattle.theory.specs.LogLaws.{readings}
 use Rattle.theory.specs.Foretelling.{set-foretold, clear-foretold, update-foretold}
-use Rattle.theory.specs.Rest.{headWith, copiesOf, booked-length, booked-set, booked-clear, booked-update}
+use Rattle.theory.specs.Rest.{headWith, copiesOf, booked-length, after-set, after-clear, after-update}
 use Rattle.theory.specs.Sound.{set-sound, clear-sound, same-copies}
 use Rattle.theory.specs.Right.{walk-sound}
 use Rattle.theory.specs.Stored.{head-passes}
@@ -114,11 +114,11 @@ module _ {ws : List ℕ} {a : Account} (i : Honest ws a) where
   tags-is tag = ap (λ (x : Settings). leb (x .tags) tag) settings-is
 
   -- ---- refusal 13, by the blocks of the book after the change
-  set-out : (now tag reading : ℕ) → c .clock ≤ now → now < OPEN → blocksOut (headOf ws) 1 ≡ outOfBlocks a (bookSet now tag (a .book))
-  set-out now tag reading later ends =
+  set-out : (now tag reading : ℕ) → c .clock ≤ now → now < OPEN → tag < s .tags → f (Dir tag) ≡ 0 → blocksOut (headOf ws) 1 ≡ outOfBlocks a (bookSet now tag (a .book))
+  set-out now tag reading later ends known d =
       ap (λ (x : Head). blocksOut x 1) (head-is i)
       ∙ out-is h 1 _ (head-sound .opened)
-      (booked-length (booked-set c f (i .rest) (i .booked) now later ends tag reading) ∙ set-foretold h head-sound f now tag reading .blocks)
+      (booked-length (after-set (i .rest) (i .booked) now later ends tag reading known d .booked) ∙ set-foretold h head-sound f now tag reading .blocks)
 
   module _ (now tag : ℕ) (later : c .clock ≤ now) (ends : now < OPEN) (known : tag < s .tags) (d : f (Dir tag) ≢ 0) where
     incoming : (more : ℕ) → blocksOut (headOf ws) (copies (headOf ws) (wordsRead ws) (tagBlock (headOf ws) (wordsRead ws) tag) + more)
@@ -134,13 +134,13 @@ module _ {ws : List ℕ} {a : Account} (i : Honest ws a) where
         ≡ outOfBlocks a (bookClear now tag (a .book))
     clear-out =
         incoming 0 ∙ out-is h (copiesOf s c f tag + 0) _ (head-sound .opened)
-        (booked-length (booked-clear c f (i .rest) (i .booked) now later ends tag d) ∙ clear-foretold h head-sound f now tag d (own-sound 0) .blocks)
+        (booked-length (after-clear (i .rest) (i .booked) now later ends tag d .booked) ∙ clear-foretold h head-sound f now tag d (own-sound 0) .blocks)
 
     update-out : (reading : ℕ) → blocksOut (headOf ws) (copies (headOf ws) (wordsRead ws) (tagBlock (headOf ws) (wordsRead ws) tag) + 1)
         ≡ outOfBlocks a (bookUpdate now tag (a .book))
     update-out reading =
         incoming 1 ∙ out-is h (copiesOf s c f tag + 1) _ (head-sound .opened)
-        (booked-length (booked-update c f (i .rest) (i .booked) now later ends tag reading d)
+        (booked-length (after-update (i .rest) (i .booked) now later ends tag d reading known .booked)
         ∙ update-foretold h head-sound f now tag reading d (own-sound 1) .blocks)
 
   -- ---- the tests of each call
@@ -149,7 +149,7 @@ module _ {ws : List ℕ} {a : Account} (i : Honest ws a) where
       let known = leb-false (s .tags) tag x₈ in
       both refl (ap not (word-free tag known) ∙ twice (among tag (soFar (a .log)))) (λ x₉.
       idle (ap (λ (x : Head). unsoundSet x (wordsRead ws)) (head-is i) ∙ set-sound c f (i .rest) (wordsRead ws) words-same)
-      (both refl (set-out now tag reading later ends) (λ x₁₃. same)))))
+      (both refl (set-out now tag reading later ends known (among-free tag x₉)) (λ x₁₃. same)))))
     where
       twice : (b : Bool) → not (not b) ≡ b
       twice true = refl

@@ -37,7 +37,7 @@ use Rattle.theory.specs.Timeline.{Timeline, told-alike, none}
 use Rattle.theory.specs.State.{free, state-as}
 use Rattle.theory.specs.LogLaws.{Once, readings, once-empty, once-set, once-clear, once-update, readings-set, readings-clear, readings-update}
 use Rattle.theory.specs.SoFar.{Timed, timed-none, timed-later, timed-more}
-use Rattle.theory.specs.Rest.{Rest, rest-fresh, rest-advance, rest-set, rest-clear, rest-update, headWith, Booked, booked-fresh, booked-advance, booked-set, booked-clear, booked-update}
+use Rattle.theory.specs.Rest.{Rest, rest-fresh, headWith, booked-fresh, After, after-advance, after-set, after-clear, after-update}
 use Rattle.theory.specs.Fresh.{freshMemory, started}
 use Rattle.theory.specs.Sound.{set-sound, clear-sound, same-copies}
 use Rattle.theory.specs.Counting.{Counted, counted-empty, counted-set, counted-clear, counted-update}
@@ -77,12 +77,11 @@ module _ {ws : List ℕ} {a : Account} (i : Honest ws a) where
   -- what an accepted change leaves, where clock, log and book follow
   ran : {now : ℕ} {book : Book} {l : Log} {sets : ℕ} {log : Timeline} {tests : List Test} (p : Settings → Cursor → Prog Cursor)
       → let z = runOn (p s c) f in All (λ y. y .applies ≡ false) tests → Goes s (p s c) f (λ d g. Next s now d) → HeadMoved (z .0) f (z .1)
-      → (Next s now (z .0) → Rest s log (z .0) (z .1)) → ((t g : ℕ) → t < OPEN → log t g ≡ readings l t g) → Once l → Timed now l
-      → Booked s book (z .0) (z .1) → Counted sets book
+      → After s now log book (z .0) (z .1) → ((t g : ℕ) → t < OPEN → log t g ≡ readings l t g) → Once l → Timed now l → Counted sets book
       → Honest (change tests ws (p (headOf ws .settings) (headOf ws .cursor)) .store) (record { settings = s; clock = now; book = book; log = l; sets = sets })
-  ran {now} {book} {l} {sets} {tests = tests} p free goes moved kept alike once timed booked counted =
+  ran {now} {book} {l} {sets} {tests = tests} p free goes moved made alike once timed counted =
       let next = goes .leaves in
-      let rest = rest-alike alike (kept next) in
+      let rest = rest-alike alike (made .rest next) in
       let after : change tests ws (p (headOf ws .settings) (headOf ws .cursor)) .store ≡ (run (over s) (p s c) ws) .1 =
       rw (refusal-none free) (ap (λ (h : Head). (run (over (h .settings)) (p (h .settings) (h .cursor)) ws) .1) (head-is i)) in
       subst (λ (us : List ℕ). Honest us (record { settings = s; clock = now; book = book; log = l; sets = sets })) (sym after) (record {
@@ -94,7 +93,7 @@ module _ {ws : List ℕ} {a : Account} (i : Honest ws a) where
         rest = rest;
         once = once;
         timed = timed;
-        booked = booked;
+        booked = made .booked;
         counted = counted;
       })
 
@@ -137,8 +136,8 @@ module _ {ws : List ℕ} {a : Account} (i : Honest ws a) where
   unfolding advance
   honest-advance now p =
       let k = timely now p .0 in
-      ran (λ s c. advanceProgram s c now) p (advance-goes head-sound f now) (advance-head s c now f) (rest-advance c f (i .rest) now (k .later) (k .ends))
-      (λ t g o. refl) (i .once) (timed-later (timed-by (k .later)) (i .timed)) (booked-advance c f (i .rest) (i .booked) now (k .later) (k .ends)) (i .counted)
+      ran (λ s c. advanceProgram s c now) p (advance-goes head-sound f now) (advance-head s c now f) (after-advance (i .rest) (i .booked) now (k .later) (k .ends))
+      (λ t g o. refl) (i .once) (timed-later (timed-by (k .later)) (i .timed)) (i .counted)
 
   -- ---- a set
   honest-set : (now tag reading : ℕ) → Passed (Set now tag reading) → Honest (step ws (Set now tag reading) .store) (enters a (Set now tag reading))
@@ -153,10 +152,9 @@ module _ {ws : List ℕ} {a : Account} (i : Honest ws a) where
           let sound = set-sound c f (i .rest) f itself in
           let absent : (t : ℕ) → now ≤ t → t < OPEN → readings (a .log) t tag ≡ none = λ t l o. free-log tag free t (omega (arith, k .later)) o in
           ran (λ s c. setProgram s c now tag reading) p (set-goes head-sound f now tag known reading sound left) (set-head s c now f tag reading)
-          (rest-set c f (i .rest) now (k .later) (k .ends) tag reading known free)
+          (after-set (i .rest) (i .booked) now (k .later) (k .ends) tag reading known free)
           (λ t g o. sym (readings-set (a .log) now tag reading t g (λ l. absent t l o))) (once-set now tag (i .once) reading absent)
-          (timed-more (Set now tag reading) (timed-by (k .later)) (omega arith) (i .timed))
-          (booked-set c f (i .rest) (i .booked) now (k .later) (k .ends) tag reading) (counted-set now tag (omega (arith, k .ends)) (i .counted))
+          (timed-more (Set now tag reading) (timed-by (k .later)) (omega arith) (i .timed)) (counted-set now tag (omega (arith, k .ends)) (i .counted))
 
   -- ---- a clear, and a new reading
   -- what their own tests say
@@ -185,9 +183,8 @@ module _ {ws : List ℕ} {a : Account} (i : Honest ws a) where
       let w = found 0 tag (q .1) in
       let sound = clear-sound c f (i .rest) f itself tag (w .known) (w .stands) 0 in
       ran (λ s c. clearProgram s c now tag) p (clear-call-goes head-sound f now tag (w .known) (w .stands) sound (w .left)) (clear-head s c now f tag)
-      (rest-clear c f (i .rest) now (k .later) (k .ends) tag (w .stands)) (λ t g o. sym (readings-clear (a .log) now tag t g)) (once-clear now tag (i .once))
-      (timed-more (Clear now tag) (timed-by (k .later)) (omega arith) (i .timed))
-      (booked-clear c f (i .rest) (i .booked) now (k .later) (k .ends) tag (w .stands)) (counted-clear now tag (omega (arith, k .ends)) (i .counted))
+      (after-clear (i .rest) (i .booked) now (k .later) (k .ends) tag (w .stands)) (λ t g o. sym (readings-clear (a .log) now tag t g)) (once-clear now tag (i .once))
+      (timed-more (Clear now tag) (timed-by (k .later)) (omega arith) (i .timed)) (counted-clear now tag (omega (arith, k .ends)) (i .counted))
 
   honest-update : (now tag reading : ℕ) → Passed (Update now tag reading) → Honest (step ws (Update now tag reading) .store) (enters a (Update now tag reading))
   unfolding update
@@ -197,10 +194,9 @@ module _ {ws : List ℕ} {a : Account} (i : Honest ws a) where
       let w = found 1 tag (q .1) in
       let sound = clear-sound c f (i .rest) f itself tag (w .known) (w .stands) 1 in
       ran (λ s c. updateProgram s c now tag reading) p (update-goes head-sound f now tag (w .known) (w .stands) reading sound (w .left))
-      (update-head s c now f tag reading) (rest-update c f (i .rest) now (k .later) (k .ends) tag (w .stands) reading (w .known))
+      (update-head s c now f tag reading) (after-update (i .rest) (i .booked) now (k .later) (k .ends) tag (w .stands) reading (w .known))
       (λ t g o. sym (readings-update (a .log) now tag reading t g)) (once-update now tag (i .once) reading)
-      (timed-more (Update now tag reading) (timed-by (k .later)) (omega arith) (i .timed))
-      (booked-update c f (i .rest) (i .booked) now (k .later) (k .ends) tag reading (w .stands)) (counted-update now tag (omega (arith, k .ends)) (i .counted))
+      (timed-more (Update now tag reading) (timed-by (k .later)) (omega arith) (i .timed)) (counted-update now tag (omega (arith, k .ends)) (i .counted))
 
 -- ---- a start, on any words
 pub honest-start : (ws : List ℕ) (s : Settings) → All (λ y. y .applies ≡ false) (testsOf ws (Start s)) → Honest (step ws (Start s) .store) (opening s)

@@ -34,8 +34,7 @@ pub mod Layers
 pub mod Counting
 pub mod BookOf
 pub mod BookReads
-pub mod BookRoll
-pub mod BookChange
+pub mod BookParts
 -- The look-back, over any reader
 pub mod FoundWalk
 pub mod Listed

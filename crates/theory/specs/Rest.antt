@@ -30,13 +30,12 @@ use Rattle.safety.specs.CallSafe.{Next}
 use Rattle.theory.specs.Timeline.{Timeline, none, some, logged}
 use Rattle.theory.specs.State.{shape, NoneDue, not-found, state-later}
 use Rattle.theory.specs.Rolling.{Full}
-use Rattle.theory.specs.Changing.{place-law, clear-law}
+use Rattle.theory.specs.Changing.{Made, place-law, clear-law}
 use Rattle.theory.specs.Fresh.{freshMemory, fresh-full}
 use Rattle.theory.specs.Effects.{view, closed-word}
 use Rattle.theory.specs.BookLaws.{tabulate-none, opening-table, closing-table, open-table}
 use Rattle.theory.specs.BookOf.{blockAt, bookOf}
 use Rattle.theory.specs.BookReads.{book-length, book-records}
-use Rattle.theory.specs.BookChange.{set-book, clear-book}
 
 -- the head of a store with these settings
 abbrev pub headWith : Settings → Cursor → Head
@@ -57,104 +56,79 @@ pub record Rest (s : Settings) (log : Timeline) (c : Cursor) (f : Memory) : Type
 pub rest-fresh : (s : Settings) → Within s → Rest s (λ t tag. none) (freshHead s .cursor) (freshMemory s)
 rest-fresh s z = record { full = fresh-full s z; limit = omega arith; begun = λ a. absurd (omega arith); empty = λ e. refl }
 
-module _ {s : Settings} {log : Timeline} (c : Cursor) (f : Memory) (i : Rest s log c f) (now : ℕ) where
-  -- the end of a change: the cursor is stored, with the clock at now, within its bounds
-  stored : {log′ : Timeline} (d : Cursor) (g : Memory) → Full s NoneDue 0 0 now log′ (shape d g)
-      → let z = runOn (finish s now d) g in Next s now (z .0) → Rest s log′ (z .0) (z .1)
-  unfolding finish storeCursor
-  stored d g r n = record {
-    full = record { state = r .state; useful = r .useful; within = r .within; fits = r .fits };
-    limit = n .opened;
-    begun = n .some;
-    empty = n .none;
-  }
-
-  module _ (later : c .clock ≤ now) (ends : now < OPEN) where
-    -- ---- a clock move
-    pub rest-advance : let z = runOn (advanceProgram s c now) f in Next s now (z .0) → Rest s log (z .0) (z .1)
-    unfolding advanceProgram
-    rest-advance n =
-        stored c f (record { state = state-later (i .full .state) later ends; useful = i .full .useful; within = i .full .within; fits = i .full .fits }) n
-
-    -- ---- a set
-    pub rest-set : (tag reading : ℕ) → tag < s .tags → f (Dir tag) ≡ 0
-        → let z = runOn (setProgram s c now tag reading) f in Next s now (z .0) → Rest s (logged now tag (some reading) log) (z .0) (z .1)
-    unfolding setProgram
-    rest-set tag reading known d n =
-        let z = runOn (place s c now tag reading) f in
-        stored (z .0) (z .1) (place-law c f now tag reading (i .full) later ends known d) n
-
-    module _ (tag : ℕ) (d : f (Dir tag) ≢ 0) where
-      -- ---- a clear
-      pub rest-clear : let z = runOn (clearProgram s c now tag) f in Next s now (z .0) → Rest s (logged now tag none log) (z .0) (z .1)
-      unfolding clearProgram
-      rest-clear n =
-          let z = runOn (clearTag s c now tag) f in
-          stored (z .0) (z .1) (clear-law c f now tag (i .full) later ends d) n
-
-      -- the tag is free once it is cleared
-      freed : (runOn (clearTag s c now tag) f) .1 (Dir tag) ≡ 0
-      freed = not-found (clear-law c f now tag (i .full) later ends d .state) tag (simp (le-leb now now (omega arith), eqb-same))
-
-      -- ---- a new reading
-      pub rest-update : (reading : ℕ) → tag < s .tags
-          → let z = runOn (updateProgram s c now tag reading) f in
-          Next s now (z .0) → Rest s (logged now tag (some reading) (logged now tag none log)) (z .0) (z .1)
-      unfolding updateProgram
-      rest-update reading known n =
-          let y = runOn (clearTag s c now tag) f in
-          let r = clear-law c f now tag (i .full) later ends d in
-          let z = runOn (place s (y .0) now tag reading) (y .1) in
-          stored (z .0) (z .1) (place-law (y .0) (y .1) now tag reading r (omega arith) ends known freed) n
-
--- ---- the book
 -- the store of a cursor and a memory shows the book k
 pub record Booked (s : Settings) (k : Book) (c : Cursor) (f : Memory) : Type 0 where
   pub is-book : bookOf s (shape c f) ≡ k
 
--- ---- a fresh register
 pub booked-fresh : (s : Settings) (f : Memory) → Booked s (emptyBook s) (freshHead s .cursor) f
 booked-fresh s f = record {
   is-book = ap (λ (l : List Block). record { b = s .block; q = s .useful; blocks = l })
       (tabulate-none (λ i. blockAt (s .block) (shape (freshHead s .cursor) f) (i + 1)));
 }
 
--- ---- the calls
--- the cursor is stored with the clock at now, which no book shows
-finish-book : (s : Settings) (c : Cursor) (f : Memory) (now : ℕ)
-    → let z = runOn (finish s now c) f in bookOf s (shape (z .0) (z .1)) ≡ bookOf s (shape c f)
-unfolding finish storeCursor
-finish-book s c f now = refl
+-- what a call leaves: a register at rest, if the cursor is within its bounds, and the book
+pub record After (s : Settings) (now : ℕ) (log : Timeline) (k : Book) (c : Cursor) (f : Memory) : Type 0 where
+  pub rest : Next s now c → Rest s log c f
+  pub booked : Booked s k c f
 
-module _ {s : Settings} {log : Timeline} {k : Book} (c : Cursor) (f : Memory) (i : Rest s log c f) (b : Booked s k c f) (now : ℕ)
-    (later : c .clock ≤ now) (ends : now < OPEN) where
-  pub booked-advance : let z = runOn (advanceProgram s c now) f in Booked s k (z .0) (z .1)
-  unfolding advanceProgram
-  booked-advance = record { is-book = finish-book s c f now ∙ b .is-book }
+module _ {s : Settings} {log : Timeline} {k : Book} {c : Cursor} {f : Memory} (i : Rest s log c f) (b : Booked s k c f) (now : ℕ) where
+  -- the end of a change: the cursor is stored, with the clock at now, which no book shows
+  stored : {log′ : Timeline} {k′ : Book} (d : Cursor) (g : Memory) → Full s NoneDue 0 0 now log′ (shape d g) → bookOf s (shape d g) ≡ k′
+      → let z = runOn (finish s now d) g in After s now log′ k′ (z .0) (z .1)
+  unfolding finish storeCursor
+  stored d g r e = record {
+    rest = λ n. record {
+      full = record { state = r .state; useful = r .useful; within = r .within; fits = r .fits };
+      limit = n .opened;
+      begun = n .some;
+      empty = n .none;
+    };
+    booked = record { is-book = e };
+  }
 
-  pub booked-set : (tag reading : ℕ) → let z = runOn (setProgram s c now tag reading) f in Booked s (bookSet now tag k) (z .0) (z .1)
-  unfolding setProgram
-  booked-set tag reading =
-      let z = runOn (place s c now tag reading) f in
-      record { is-book = finish-book s (z .0) (z .1) now ∙ set-book c f now (i .full) later ends tag reading ∙ ap (bookSet now tag) (b .is-book) }
+  -- blocks as a book with these settings
+  abbrev bound : List Block → Book
+  bound l = record { b = s .block; q = s .useful; blocks = l }
 
-  pub booked-clear : (tag : ℕ) → f (Dir tag) ≢ 0 → let z = runOn (clearProgram s c now tag) f in Booked s (bookClear now tag k) (z .0) (z .1)
-  unfolding clearProgram
-  booked-clear tag d =
-      let z = runOn (clearTag s c now tag) f in
-      record { is-book = finish-book s (z .0) (z .1) now ∙ clear-book c f now (i .full) later ends tag d ∙ ap (bookClear now tag) (b .is-book) }
+  module _ (later : c .clock ≤ now) (ends : now < OPEN) where
+    -- ---- a clock move
+    pub after-advance : let z = runOn (advanceProgram s c now) f in After s now log k (z .0) (z .1)
+    unfolding advanceProgram
+    after-advance =
+        let r = i .full in
+        stored c f (record { state = state-later (r .state) later ends; useful = r .useful; within = r .within; fits = r .fits }) (b .is-book)
 
-  pub booked-update : (tag reading : ℕ) → f (Dir tag) ≢ 0
-      → let z = runOn (updateProgram s c now tag reading) f in Booked s (bookUpdate now tag k) (z .0) (z .1)
-  unfolding updateProgram
-  booked-update tag reading d =
-      let y = runOn (clearTag s c now tag) f in
-      let z = runOn (place s (y .0) now tag reading) (y .1) in
-      let r = clear-law c f now tag (i .full) later ends d in
-      record {
-        is-book = finish-book s (z .0) (z .1) now ∙ set-book (y .0) (y .1) now r (omega arith) ends tag reading
-            ∙ ap (bookSet now tag) (clear-book c f now (i .full) later ends tag d ∙ ap (bookClear now tag) (b .is-book));
-      }
+    -- ---- a set
+    pub after-set : (tag reading : ℕ) → tag < s .tags → f (Dir tag) ≡ 0
+        → let z = runOn (setProgram s c now tag reading) f in After s now (logged now tag (some reading) log) (bookSet now tag k) (z .0) (z .1)
+    unfolding setProgram
+    after-set tag reading known d =
+        let z = runOn (place s c now tag reading) f in
+        let m = place-law c f now tag reading (i .full) later ends known d in
+        stored (z .0) (z .1) (m .full) (ap bound (m .shows) ∙ ap (bookSet now tag) (b .is-book))
+
+    module _ (tag : ℕ) (d : f (Dir tag) ≢ 0) where
+      cleared : let z = runOn (clearTag s c now tag) f in
+          Made s NoneDue now (logged now tag none log) (bookClear now tag (bookOf s (shape c f)) .blocks) (shape (z .0) (z .1))
+      cleared = clear-law c f now tag (i .full) later ends d
+
+      -- ---- a clear
+      pub after-clear : let z = runOn (clearProgram s c now tag) f in After s now (logged now tag none log) (bookClear now tag k) (z .0) (z .1)
+      unfolding clearProgram
+      after-clear =
+          let z = runOn (clearTag s c now tag) f in
+          stored (z .0) (z .1) (cleared .full) (ap bound (cleared .shows) ∙ ap (bookClear now tag) (b .is-book))
+
+      -- ---- a new reading: the tag is free once it is cleared
+      pub after-update : (reading : ℕ) → tag < s .tags → let z = runOn (updateProgram s c now tag reading) f in
+          After s now (logged now tag (some reading) (logged now tag none log)) (bookUpdate now tag k) (z .0) (z .1)
+      unfolding updateProgram
+      after-update reading known =
+          let y = runOn (clearTag s c now tag) f in
+          let z = runOn (place s (y .0) now tag reading) (y .1) in
+          let freed = not-found (cleared .full .state) tag (simp (le-leb now now (omega arith), eqb-same)) in
+          let m = place-law (y .0) (y .1) now tag reading (cleared .full) (omega arith) ends known freed in
+          stored (z .0) (z .1) (m .full) (ap bound (m .shows) ∙ ap (bookSet now tag) (ap bound (cleared .shows) ∙ ap (bookClear now tag) (b .is-book)))
 
 -- ---- what the store and its book agree in
 module _ {s : Settings} {k : Book} {c : Cursor} {f : Memory} (b : Booked s k c f) where
