@@ -19,15 +19,13 @@ use Rattle.layout.specs.Memory.{Memory}
 use Rattle.layout.specs.Program.{runOn}
 use Rattle.calls.specs.Placing.{openBlock, unlink, endRecord, putRecord, moveRecord}
 use Rattle.calls.specs.Book.{Block, standingTags, opensAt, onBlock, entriesOf, closesAt, appends, inOrder, judges}
-use Rattle.theory.specs.Effects.{view, unlink-effect, open-effect}
+use Rattle.theory.specs.Effects.{view, unlink-effect, open-effect, recordsOf, put-records, open-records}
 use Rattle.theory.specs.Records.{Record}
 use Rattle.theory.specs.Timeline.{Timeline}
-use Rattle.theory.specs.PartEffects.{recordsOf, put-records, open-records}
 use Rattle.theory.specs.State.{Shape, shape, State, pending, unlink-shape, open-shape}
 use Rattle.theory.specs.Moving.{move-effect}
 use Rattle.theory.specs.Layers.{Write}
-use Rattle.theory.specs.BookOf.{blocksIn, book-opens, book-appends, book-moves, book-closes, entry-same}
-use Rattle.theory.specs.BookReads.{book-tags}
+use Rattle.theory.specs.BookOf.{blocksIn, book-opens, book-appends, book-moves, book-closes, entry-same, book-tags}
 
 -- In the midst of moving the records of block x, each by `write`: what is left to write gives from here the book that it gave from the start.
 pub record Writing (s : Settings) (Walk : List ℕ → Shape → Type 0) (write : Write) (x : ℕ) (tag : ℕ → ℕ) (end : List Block)

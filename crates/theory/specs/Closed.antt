@@ -26,8 +26,7 @@ use Rattle.calls.specs.Placing.{enterTime, openBlock, unlink, endRecord, standi
 use Rattle.calls.specs.Refusals.{takenUp}
 use Rattle.safety.specs.Sound.{bit-raised, bit-elsewhere}
 use Rattle.theory.specs.RunLaws.{each-walk}
-use Rattle.theory.specs.Effects.{enter-keeps}
-use Rattle.theory.specs.PartEffects.{open-marks-other}
+use Rattle.theory.specs.Effects.{enter-keeps, open-marks-other}
 use Rattle.theory.specs.State.{open-cursor}
 
 abbrev pub closedOf : Memory → ℕ → ℕ

@@ -6,7 +6,7 @@ use lib.ListN.{length}
 use Rattle.base.specs.Sums.{total, totals, total-length, upto, upto-suc}
 use Rattle.theory.specs.Tree.{View}
 use Rattle.theory.specs.Records.{Records, Stands, Kept}
-use Rattle.theory.specs.Useful.{AtLeast, enough, another}
+use Rattle.theory.specs.Moving.{AtLeast, enough, another}
 use Rattle.theory.specs.MemberLaws.{upto-grows, total-joined}
 use Rattle.theory.specs.RecordRows.{standingRow, standingRows, standing-row}
 

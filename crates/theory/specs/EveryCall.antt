@@ -34,8 +34,7 @@ use Rattle.safety.specs.Goes.{Goes}
 use Rattle.safety.specs.CallSafe.{Next, next-head, advance-goes, set-goes, clear-call-goes, update-goes}
 use Rattle.theory.specs.Fresh.{started, started-length}
 use Rattle.theory.specs.TestLaws.{numbered, Decided, free, turned, refused, clash}
-use Rattle.theory.specs.HeadKept.{HeadMoved, set-head, clear-head, update-head, advance-head}
-use Rattle.theory.specs.Stored.{Stored, Left, stored-run}
+use Rattle.theory.specs.Stored.{Stored, Left, stored-run, HeadMoved, set-head, clear-head, update-head, advance-head}
 use Rattle.theory.specs.Foretelling.{advance-foretold, set-foretold, clear-foretold, update-foretold}
 use Rattle.theory.specs.OneChange.{small-same, small-left}
 

@@ -1,29 +1,95 @@
--- Every look-back on any words: accepted if and only if no refusal applies, its answer fits its buffers, and refusal 12 fills both with zeros.
-use mathlib.Core.Path.{_≡_, refl, ap₂}
-use mathlib.Core.Logic.{_≢_}
-use mathlib.Core.Bool.{Bool, true, false, cond, _||_}
-use mathlib.Core.List.{List, [], _∷_}
+-- EVERY QUERY ON ANY WORDS: what its reply must be (FairQuery), the three ways to reply, and that what is claimed of every call then holds of the query
+-- (every-query), whichever it is: it leaves the store, and so book, log and account, as they are. Every look-back: accepted if and only if no refusal
+-- applies, its answer fits its buffers, and refusal 12 fills both with zeros. And so every call (every-call).
+use mathlib.Core.Path.{_≡_, refl, sym, ap, _∙_, subst, ap₂}
+use mathlib.Core.Logic.{_≢_, _↔_}
+use mathlib.Core.Bool.{true, false, true≢false, Bool, cond, _||_}
+use mathlib.Core.List.{List, [], _∷_, map}
 use Prim.Native.Nat.{ℕ, zero, _*_, _≤_, _<_}
 use native.Mathlib.Omega.{arith}
+use lib.ListN.{length, length-replicate, length-append, length-drop}
 use lib.Dec.{eqb, ltb}
-use lib.ListN.{length, length-append, length-drop}
 use borrow.Author.Tests.{ne-eqb, ltb-false}
-use Rattle.base.specs.Branch.{is?, or-false}
 use Rattle.base.specs.Sums.{All, nil, cons}
+use Rattle.base.specs.Branch.{is?, or-false}
 use Rattle.layout.specs.Sizes.{rowLen}
 use Rattle.layout.specs.Head.{headOf}
-use Rattle.calls.specs.Calls.{Call, Start, Set, Clear, Update, Advance, Ask, LookBack, Row, Refused}
-use Rattle.calls.specs.Walk.{Pass, Looked, unsoundly, looked}
+use Rattle.calls.specs.Calls.{Query, buffersOf, Ask, Answer, Refused, accepted, Call, Start, Set, Clear, Update, Advance, LookBack, Row}
 use Rattle.calls.specs.Refusals.{Test, refusal, lookBackTests}
+use Rattle.calls.specs.Step.{QueryReply, answerTo, queryTests}
+use Rattle.calls.specs.Claims.{First, EveryCall, NoHead, zeroed}
+use Rattle.calls.specs.Walk.{Pass, Looked, unsoundly, looked}
 use Rattle.calls.specs.LookBack.{SliceReply, lookAt, lookBack, seen, isUnsound, rowWords, written, reader}
-use Rattle.calls.specs.Step.{QueryReply}
-use Rattle.calls.specs.Claims.{First, EveryCall}
+use Rattle.theory.specs.TestLaws.{clash, Decided, free, turned, refused, never-first}
+use Rattle.theory.specs.OneChange.{small-same}
 use Rattle.theory.specs.Passes.{look-fits}
-use Rattle.theory.specs.TestLaws.{Decided, free, turned, refused, never-first}
-use Rattle.theory.specs.QueryLaws.{FairQuery, answered-query, turned-query, unsound-query, every-query}
 use Rattle.theory.specs.EveryCall.{every-start, every-set, every-clear, every-update, every-advance}
 use Rattle.theory.specs.ViewClaims.{few-blocks}
 
+-- a reply to the tests l, with the buffers that were lent
+pub record FairQuery (l : List Test) (before : List (List ℕ)) (r : QueryReply) : Type 0 where
+  pub accepted-iff : (accepted (r .answer) ≡ true) ↔ All (λ x. x .applies ≡ false) l
+  pub refused-first : (n : ℕ) → r .answer ≡ Refused n → First l n
+  pub buffers-kept : (n : ℕ) → r .answer ≡ Refused n → n ≢ 12 → r .lent ≡ before
+  pub buffers-zero : r .answer ≡ Refused 12 → r .lent ≡ zeroed before
+  pub no-head : NoHead (r .answer)
+  pub same-lengths : map length (r .lent) ≡ map length before
+
+zeroed-lengths : (before : List (List ℕ)) → map length (zeroed before) ≡ map length before
+zeroed-lengths [] = refl
+zeroed-lengths (x ∷ l) = rw (length-replicate {A = ℕ} (length x) 0, zeroed-lengths l)
+
+module _ {l : List Test} {before : List (List ℕ)} where
+  -- answered
+  pub answered-query : {a : Answer} {lent : List (List ℕ)} → accepted a ≡ true → NoHead a → All (λ x. x .applies ≡ false) l
+      → map length lent ≡ map length before → FairQuery l before (record { answer = a; lent = lent })
+  answered-query t h f k = record {
+    accepted-iff = (λ e. f, λ e. t);
+    refused-first = λ n e. absurd (true≢false (sym t ∙ ap accepted e));
+    buffers-kept = λ n e d. absurd (true≢false (sym t ∙ ap accepted e));
+    buffers-zero = λ e. absurd (true≢false (sym t ∙ ap accepted e));
+    no-head = h;
+    same-lengths = k;
+  }
+
+  -- refused with another number than 12
+  pub turned-query : (n : ℕ) → n ≢ 12 → First l n → FairQuery l before (record { answer = Refused n; lent = before })
+  turned-query n d f = record {
+    accepted-iff = (λ e. absurd (let z : _≡_ {A = ℕ} 0 1 = cc in omega arith), λ a. absurd (clash a f));
+    refused-first = λ m e. let z : n ≡ m = cc in rw z at f;
+    buffers-kept = λ m e c. refl;
+    buffers-zero = λ e. let z : n ≡ 12 = cc in absurd (d z);
+    no-head = tt;
+    same-lengths = refl;
+  }
+
+  -- refused with 12
+  pub unsound-query : {n : ℕ} → n ≡ 12 → First l n → FairQuery l before (record { answer = Refused n; lent = zeroed before })
+  unsound-query {n} e f = record {
+    accepted-iff = (λ e. absurd (let z : _≡_ {A = ℕ} 0 1 = cc in omega arith), λ a. absurd (clash a f));
+    refused-first = λ m e. let z : n ≡ m = cc in rw z at f;
+    buffers-kept = λ m q c. let z : n ≡ m = cc in absurd (c (sym z ∙ e));
+    buffers-zero = λ e. refl;
+    no-head = tt;
+    same-lengths = zeroed-lengths before;
+  }
+
+pub every-query : (ws : List ℕ) (q : Query) → FairQuery (queryTests ws q) (buffersOf q) (answerTo ws q) → EveryCall ws (Ask q)
+every-query ws q f = record {
+  accepted-iff = f .accepted-iff;
+  refused-first = f .refused-first;
+  store-kept = λ n e. refl;
+  buffers-kept = f .buffers-kept;
+  buffers-zero = f .buffers-zero;
+  head-or-view = f .no-head;
+  head-stored = λ h e. absurd (subst NoHead e (f .no-head));
+  foretold = λ a. tt;
+  small = λ k. small-same ws;
+  same-lengths = (refl, f .same-lengths);
+  query-reads = λ r e. refl;
+}
+
+-- ---- a look-back
 row-words-length : (r : List Row) → length (rowWords r) ≡ rowLen * length r
 row-words-length [] = refl
 row-words-length (x ∷ r) = omega (arith, row-words-length r)

@@ -28,6 +28,8 @@ use Rattle.theory.specs.SoFar.{Timed}
 use Rattle.theory.specs.Stored.{Stored, stored-at}
 use Rattle.theory.specs.Right.{LookSound}
 use Rattle.theory.specs.LookReady.{look-ready}
+use Rattle.layout.specs.Interp.{Same}
+use Rattle.layout.specs.HeadLaws.{SoundHead}
 
 pub record Honest (ws : List ℕ) (a : Account) : Type 0 where
   pub cursor : Cursor
@@ -60,7 +62,13 @@ module _ {ws : List ℕ} {a : Account} (i : Honest ws a) where
   pub word-is : (x : Address) → Valid s x → wordsRead ws x ≡ f x
   word-is x v = ap (λ (h : Head). over (h .settings) .read ws x) head-is ∙ stored-at (i .stored) x v
 
-  block-numbered : (n : ℕ) → 1 ≤ n → n ≤ c .opened → Numbered s n
+  pub words-same : Same (wordsRead ws) (Valid s) f
+  words-same = record { at = word-is }
+
+  pub head-sound : SoundHead (headWith s c)
+  head-sound = i .stored .read .sound
+
+  pub block-numbered : (n : ℕ) → 1 ≤ n → n ≤ c .opened → Numbered s n
   block-numbered n l h = record { low = l; high = omega (arith, i .rest .limit) }
 
   blocks-long : length (a .book .blocks) ≡ c .opened

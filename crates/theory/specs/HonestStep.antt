@@ -19,7 +19,6 @@ use Rattle.layout.specs.Interp.{Same}
 use Rattle.layout.specs.Memory.{Memory}
 use Rattle.layout.specs.SettingsLaws.{limits-within}
 use Rattle.layout.specs.Head.{headOf, withHead, cleared, freshHead}
-use Rattle.layout.specs.HeadLaws.{SoundHead}
 use Rattle.layout.specs.Program.{Prog, run, runOn}
 use Rattle.layout.specs.OnWords.{over}
 use Rattle.layout.specs.OverLaws.{over-safe}
@@ -34,18 +33,17 @@ use Rattle.calls.specs.Claims.{EveryCall}
 use Rattle.safety.specs.Goes.{Goes}
 use Rattle.safety.specs.CallSafe.{Next, next-head, advance-goes, set-goes, clear-call-goes, update-goes}
 use Rattle.theory.specs.Timeline.{Timeline, told-alike, none}
-use Rattle.theory.specs.State.{free, state-as}
+use Rattle.theory.specs.State.{free as not-there, state-as}
 use Rattle.theory.specs.LogLaws.{Once, readings, once-empty, once-set, once-clear, once-update, readings-set, readings-clear, readings-update}
 use Rattle.theory.specs.SoFar.{Timed, timed-none, timed-later, timed-more}
 use Rattle.theory.specs.Rest.{Rest, rest-fresh, headWith, booked-fresh, After, after-advance, after-set, after-clear, after-update}
 use Rattle.theory.specs.Fresh.{freshMemory, started}
 use Rattle.theory.specs.Sound.{set-sound, clear-sound, same-copies}
 use Rattle.theory.specs.Counting.{Counted, counted-empty, counted-set, counted-clear, counted-update}
-use Rattle.theory.specs.HeadKept.{HeadMoved, set-head, clear-head, update-head, advance-head}
-use Rattle.theory.specs.Stored.{stored-run}
+use Rattle.theory.specs.Stored.{stored-run, HeadMoved, set-head, clear-head, update-head, advance-head}
 use Rattle.theory.specs.TestLaws.{refusal-none}
 use Rattle.theory.specs.EveryLookBack.{every-call}
-use Rattle.theory.specs.Honest.{Honest, head-is, word-is}
+use Rattle.theory.specs.Honest.{Honest, head-is, word-is, words-same, head-sound}
 
 -- ---- a log that says the same of every second
 rest-alike : {s : Settings} {l l′ : Timeline} {c : Cursor} {f : Memory} → ((t g : ℕ) → t < OPEN → l t g ≡ l′ t g) → Rest s l c f → Rest s l′ c f
@@ -69,10 +67,6 @@ module _ {ws : List ℕ} {a : Account} (i : Honest ws a) where
 
   abbrev f : Memory
   f = i .memory
-
-  -- a tag that the directory does not have stands at no second from the clock on
-  free-log : (tag : ℕ) → f (Dir tag) ≡ 0 → (t : ℕ) → c .clock ≤ t → t < OPEN → readings (a .log) t tag ≡ none
-  free-log tag e t l o = free (i .rest .full .state) tag e t l o
 
   -- what an accepted change leaves, where clock, log and book follow
   ran : {now : ℕ} {book : Book} {l : Log} {sets : ℕ} {log : Timeline} {tests : List Test} (p : Settings → Cursor → Prog Cursor)
@@ -111,16 +105,9 @@ module _ {ws : List ℕ} {a : Account} (i : Honest ws a) where
   tags-are : headOf ws .settings .tags ≡ s .tags
   tags-are = ap (λ (h : Head). h .settings .tags) (head-is i)
 
-  -- the words that the tests read
-  same : Same (wordsRead ws) (Valid s) f
-  same = record { at = word-is i }
-
-  -- and the memory's own
+  -- the memory's own words
   itself : Same f (Valid s) f
   itself = record { at = λ x v. refl }
-
-  head-sound : SoundHead (headWith s c)
-  head-sound = i .stored .read .sound
 
   -- a change at now
   record Timely (now : ℕ) : Type 0 where
@@ -136,7 +123,7 @@ module _ {ws : List ℕ} {a : Account} (i : Honest ws a) where
   unfolding advance
   honest-advance now p =
       let k = timely now p .0 in
-      ran (λ s c. advanceProgram s c now) p (advance-goes head-sound f now) (advance-head s c now f) (after-advance (i .rest) (i .booked) now (k .later) (k .ends))
+      ran (λ s c. advanceProgram s c now) p (advance-goes (head-sound i) f now) (advance-head s c now f) (after-advance (i .rest) (i .booked) now (k .later) (k .ends))
       (λ t g o. refl) (i .once) (timed-later (timed-by (k .later)) (i .timed)) (i .counted)
 
   -- ---- a set
@@ -150,8 +137,8 @@ module _ {ws : List ℕ} {a : Account} (i : Honest ws a) where
           let free : f (Dir tag) ≡ 0 = sym (word-is i (Dir tag) known) ∙ eqb-true (wordsRead ws (Dir tag)) 0 (not-false _ x₉) in
           let left : blocksOut (headWith s c) 1 ≡ false = ap (λ (h : Head). blocksOut h 1) (sym (head-is i)) ∙ x₁₃ in
           let sound = set-sound c f (i .rest) f itself in
-          let absent : (t : ℕ) → now ≤ t → t < OPEN → readings (a .log) t tag ≡ none = λ t l o. free-log tag free t (omega (arith, k .later)) o in
-          ran (λ s c. setProgram s c now tag reading) p (set-goes head-sound f now tag known reading sound left) (set-head s c now f tag reading)
+          let absent : (t : ℕ) → now ≤ t → t < OPEN → readings (a .log) t tag ≡ none = λ t l o. not-there (i .rest .full .state) tag free t (omega (arith, k .later)) o in
+          ran (λ s c. setProgram s c now tag reading) p (set-goes (head-sound i) f now tag known reading sound left) (set-head s c now f tag reading)
           (after-set (i .rest) (i .booked) now (k .later) (k .ends) tag reading known free)
           (λ t g o. sym (readings-set (a .log) now tag reading t g (λ l. absent t l o))) (once-set now tag (i .once) reading absent)
           (timed-more (Set now tag reading) (timed-by (k .later)) (omega arith) (i .timed)) (counted-set now tag (omega (arith, k .ends)) (i .counted))
@@ -167,7 +154,7 @@ module _ {ws : List ℕ} {a : Account} (i : Honest ws a) where
   found more tag (cons x₈ (cons x₁₀ (cons x₁₂ (cons x₁₃ nil)))) =
       let known : tag < s .tags = omega (arith, leb-false (headOf ws .settings .tags) tag x₈, tags-are) in
       let stands : f (Dir tag) ≢ 0 = λ e. eqb-false (wordsRead ws (Dir tag)) 0 x₁₀ (word-is i (Dir tag) known ∙ e) in
-      let moved = same-copies c f (i .rest) (wordsRead ws) same tag known stands in
+      let moved = same-copies c f (i .rest) (wordsRead ws) (words-same i) tag known stands in
       record {
         known = known;
         stands = stands;
@@ -182,7 +169,7 @@ module _ {ws : List ℕ} {a : Account} (i : Honest ws a) where
       let k = q .0 in
       let w = found 0 tag (q .1) in
       let sound = clear-sound c f (i .rest) f itself tag (w .known) (w .stands) 0 in
-      ran (λ s c. clearProgram s c now tag) p (clear-call-goes head-sound f now tag (w .known) (w .stands) sound (w .left)) (clear-head s c now f tag)
+      ran (λ s c. clearProgram s c now tag) p (clear-call-goes (head-sound i) f now tag (w .known) (w .stands) sound (w .left)) (clear-head s c now f tag)
       (after-clear (i .rest) (i .booked) now (k .later) (k .ends) tag (w .stands)) (λ t g o. sym (readings-clear (a .log) now tag t g)) (once-clear now tag (i .once))
       (timed-more (Clear now tag) (timed-by (k .later)) (omega arith) (i .timed)) (counted-clear now tag (omega (arith, k .ends)) (i .counted))
 
@@ -193,7 +180,7 @@ module _ {ws : List ℕ} {a : Account} (i : Honest ws a) where
       let k = q .0 in
       let w = found 1 tag (q .1) in
       let sound = clear-sound c f (i .rest) f itself tag (w .known) (w .stands) 1 in
-      ran (λ s c. updateProgram s c now tag reading) p (update-goes head-sound f now tag (w .known) (w .stands) reading sound (w .left))
+      ran (λ s c. updateProgram s c now tag reading) p (update-goes (head-sound i) f now tag (w .known) (w .stands) reading sound (w .left))
       (update-head s c now f tag reading) (after-update (i .rest) (i .booked) now (k .later) (k .ends) tag (w .stands) reading (w .known))
       (λ t g o. sym (readings-update (a .log) now tag reading t g)) (once-update now tag (i .once) reading)
       (timed-more (Update now tag reading) (timed-by (k .later)) (omega arith) (i .timed)) (counted-update now tag (omega (arith, k .ends)) (i .counted))

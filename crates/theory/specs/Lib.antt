@@ -8,11 +8,9 @@ pub mod Times
 pub mod Records
 pub mod Timeline
 pub mod Marks
-pub mod PartEffects
 -- The invariant, in the middle of a change and at rest
 pub mod State
 pub mod Moving
-pub mod Useful
 pub mod Rolling
 pub mod Changing
 pub mod Fresh
@@ -33,24 +31,20 @@ pub mod BookLaws
 pub mod Layers
 pub mod Counting
 pub mod BookOf
-pub mod BookReads
 pub mod BookParts
 -- The look-back, over any reader
 pub mod FoundWalk
 pub mod Listed
 pub mod SearchLaws
-pub mod WalkTree
 pub mod Right
 pub mod Passes
 pub mod ViewClaims
 pub mod StoreAlike
 -- Words that hold a memory, and every call on any words
 pub mod TestLaws
-pub mod HeadKept
 pub mod Stored
 pub mod OneChange
 pub mod EveryCall
-pub mod QueryLaws
 pub mod EveryLookBack
 -- Words after a history, and the theorems
 pub mod LookReady

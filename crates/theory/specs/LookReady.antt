@@ -24,13 +24,12 @@ use Rattle.calls.specs.Calls.{Row}
 use Rattle.calls.specs.Walk.{entries, Reader}
 use Rattle.calls.specs.LookBack.{reader}
 use Rattle.theory.specs.Tree.{View}
-use Rattle.theory.specs.Effects.{view, closed-word}
+use Rattle.theory.specs.Effects.{view, closed-word, recordsOf}
 use Rattle.theory.specs.State.{shape, State, NoneDue}
 use Rattle.theory.specs.Timeline.{Timeline}
-use Rattle.theory.specs.PartEffects.{recordsOf}
 use Rattle.theory.specs.RecordRows.{SlotHolds, rowsAt, standingRows, rows-of-records, words-sum, rows-once, rows-known, rows-unopened, rows-ended}
 use Rattle.theory.specs.FoundWalk.{rowsIn}
-use Rattle.theory.specs.WalkTree.{Agree, Rooted, rooted-open, rooted-closed}
+use Rattle.theory.specs.Listed.{Agree, Rooted, rooted-open, rooted-closed}
 use Rattle.theory.specs.Right.{LookSound, allWeigh, all-weigh-is}
 use Rattle.theory.specs.Stored.{Stored, stored-at}
 use Rattle.base.specs.Branch.{is?}

@@ -15,7 +15,6 @@ use Rattle.layout.specs.declared.standing.Standing.{Standing}
 use Rattle.layout.specs.declared.address.Address.the-variants.{Dir, Bits, Slot}
 use Rattle.layout.specs.Sizes.{OPEN}
 use Rattle.layout.specs.Fields.{tagWord, fromWord, toWord}
-use Rattle.layout.specs.Address.{Numbered}
 use Rattle.layout.specs.Head.{headOf}
 use Rattle.layout.specs.Standing.{stands, blockBits}
 use Rattle.layout.specs.Parts.{slotWord}
@@ -25,9 +24,9 @@ use Rattle.calls.specs.Walk.{rowOf}
 use Rattle.calls.specs.Step.{wordsRead}
 use Rattle.calls.specs.History.{Account}
 use Rattle.calls.specs.Claims.{AnyBlock, StandsAt, Means}
-use Rattle.theory.specs.PartEffects.{marksOf}
+use Rattle.theory.specs.Effects.{marksOf}
 use Rattle.theory.specs.Sound.{stands-bit}
-use Rattle.theory.specs.Honest.{Honest, head-is, word-is}
+use Rattle.theory.specs.Honest.{Honest, head-is, word-is, block-numbered}
 use Rattle.theory.specs.ByAccount.{free-among, among-free}
 
 -- ---- any block's words
@@ -45,13 +44,10 @@ any-block = record { brief = brief; number-of-ones = λ b l h. slots-count (b .l
 
 -- ---- after a history
 module _ {ws : List ℕ} {a : Account} (i : Honest ws a) where
-  numbered : (n : ℕ) → 1 ≤ n → n ≤ i .cursor .opened → Numbered (a .settings) n
-  numbered n l h = record { low = l; high = omega (arith, i .rest .limit) }
-
   bits-are : (n : ℕ) → 1 ≤ n → n ≤ i .cursor .opened → blockBits (wordsRead ws) n ≡ record { low = i .memory (Bits n 0); high = i .memory (Bits n 1) }
   bits-are n l h = λ j. record {
-    low = word-is i (Bits n 0) (numbered n l h, omega arith) j;
-    high = word-is i (Bits n 1) (numbered n l h, omega arith) j;
+    low = word-is i (Bits n 0) (block-numbered i n l h, omega arith) j;
+    high = word-is i (Bits n 1) (block-numbered i n l h, omega arith) j;
   }
 
   opened-is : headOf ws .cursor .opened ≡ i .cursor .opened
@@ -62,7 +58,7 @@ module _ {ws : List ℕ} {a : Account} (i : Honest ws a) where
 
   -- the word of a slot
   slot-is : (n k j : ℕ) → 1 ≤ n → n ≤ i .cursor .opened → k < a .settings .block → j < 4 → wordsRead ws (Slot n k j) ≡ i .memory (Slot n k j)
-  slot-is n k j l h q w = word-is i (Slot n k j) (numbered n l h, q, w)
+  slot-is n k j l h q w = word-is i (Slot n k j) (block-numbered i n l h, q, w)
 
   bit-iff : (n k : ℕ) → 1 ≤ n → n ≤ i .cursor .opened → k < a .settings .block → (stands (blockBits (wordsRead ws) n) k ≡ true) ↔ (wordsRead ws (Slot n k toWord) ≡ OPEN)
   bit-iff n k l h q =

@@ -34,8 +34,7 @@ use Rattle.theory.specs.Changing.{Made, place-law, clear-law}
 use Rattle.theory.specs.Fresh.{freshMemory, fresh-full}
 use Rattle.theory.specs.Effects.{view, closed-word}
 use Rattle.theory.specs.BookLaws.{tabulate-none, opening-table, closing-table, open-table}
-use Rattle.theory.specs.BookOf.{blockAt, bookOf}
-use Rattle.theory.specs.BookReads.{book-length, book-records}
+use Rattle.theory.specs.BookOf.{blockAt, bookOf, book-length, book-records}
 
 -- the head of a store with these settings
 abbrev pub headWith : Settings → Cursor → Head

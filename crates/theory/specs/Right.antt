@@ -17,9 +17,8 @@ use Rattle.calls.specs.Calls.{Row}
 use Rattle.calls.specs.Walk.{Reader, Pass, entries, looked, look}
 use Rattle.theory.specs.Tree.{View}
 use Rattle.theory.specs.FoundWalk.{closedOf, rowsIn, Search, looks}
-use Rattle.theory.specs.Listed.{Apart, apart-wider, path-apart, outlasts, Late, late-outlasts, path-half, rowsWeigh, path-rows}
+use Rattle.theory.specs.Listed.{Apart, apart-wider, path-apart, outlasts, Late, late-outlasts, path-half, rowsWeigh, path-rows, Agree, Rooted, WholePath, whole-path}
 use Rattle.theory.specs.SearchLaws.{entry, finds}
-use Rattle.theory.specs.WalkTree.{Agree, Rooted, WholePath, whole-path}
 use Rattle.layout.specs.Head.{headOf}
 use Rattle.calls.specs.LookBack.{reader, lookAt, isUnsound}
 

@@ -22,17 +22,14 @@ use Rattle.layout.specs.Program.{runOn}
 use Rattle.calls.specs.Placing.{openBlock, unlink, endRecord, standing, putRecord, moveRecord, closeFull, judgeFull, roll, makeRoom}
 use Rattle.calls.specs.Book.{Block, opensAt, onBlock, entriesOf, closesAt, lastOf, appends, inOrder, judges, writes, layers}
 use Rattle.theory.specs.RunLaws.{each-walk}
-use Rattle.theory.specs.Effects.{view, unlink-effect, open-effect}
+use Rattle.theory.specs.Effects.{view, unlink-effect, open-effect, recordsOf, open-records}
 use Rattle.theory.specs.Records.{Records}
 use Rattle.theory.specs.Timeline.{Timeline}
 use Rattle.theory.specs.Marks.{Marks, Pending}
-use Rattle.theory.specs.PartEffects.{recordsOf, open-records}
 use Rattle.theory.specs.State.{Shape, shape, State, pending, state-later, unlink-shape, open-cursor, open-shape, opened-block, appended}
-use Rattle.theory.specs.Moving.{MovedAt, Moving, moved-all, unlinked-moving, move-effect, move-step}
-use Rattle.theory.specs.Useful.{Useful, useful-open, useful-judged, useful-all}
+use Rattle.theory.specs.Moving.{MovedAt, Moving, moved-all, unlinked-moving, move-effect, move-step, Useful, useful-open, useful-judged, useful-all}
 use Rattle.theory.specs.Layers.{write-layers}
-use Rattle.theory.specs.BookOf.{blocksIn}
-use Rattle.theory.specs.BookReads.{book-length, book-fill, book-last}
+use Rattle.theory.specs.BookOf.{blocksIn, book-length, book-fill, book-last}
 use Rattle.theory.specs.BookParts.{Writing, written, move-book, move-tags, unlink-writing, open-book, judges-slots}
 
 -- T differs from S at block x and above only

@@ -19,13 +19,11 @@ use Rattle.layout.specs.Program.{runOn}
 use Rattle.calls.specs.Placing.{placeOf, openBlock, unlink, endRecord, putRecord}
 use Rattle.theory.specs.Tree.{View}
 use Rattle.theory.specs.Row.{Linked, Unlinked, unlinked, opened, later, Put}
-use Rattle.theory.specs.Effects.{view, put-is, open-effect}
+use Rattle.theory.specs.Effects.{view, put-is, open-effect, recordsOf, directoryOf, marksOf, end-records, end-marks, put-records, put-directory, put-marks, open-directory, open-marks-here, open-marks-other, open-records}
 use Rattle.theory.specs.Times.{Indexed, indexed-open, indexed-same, times, open-enters}
 use Rattle.theory.specs.Records.{Record, Records, Stands, place?, Kept, kept-later, kept-put, kept-end, kept-unlink, kept-open, Found, found-put, found-end, found-open, PutAt, endedAt}
 use Rattle.theory.specs.Timeline.{Timeline, Told, told-put, told-end, told-open, Reading, none, some, logged}
 use Rattle.theory.specs.Marks.{Marks, Marked, marked-at, marked-open, Pending, pending-slots, PutBit}
-use Rattle.theory.specs.PartEffects.{recordsOf, directoryOf, marksOf, end-records, end-marks, put-records, put-directory, put-marks}
-use Rattle.theory.specs.PartEffects.{open-directory, open-marks-here, open-marks-other, open-records}
 
 pub record Shape : Type 0 where
   pub view : View
