@@ -15,11 +15,12 @@ use Rattle.base.specs.Ones.{Lists, none, more}
 use Rattle.layout.specs.declared.settings.Settings.{Settings}
 use Rattle.layout.specs.Sizes.{OPEN}
 use Rattle.calls.specs.Book.{Entry, Block, Book, opensAt, onBlock, closesAt, appends, endsTag, endsIn, standingTags, entriesOf, lastOf, holds, holderOf, recordsIn}
-use Rattle.theory.specs.Tree.{View}
-use Rattle.theory.specs.Row.{Unlinked, Opened}
+use Rattle.theory.specs.Row.{Unlinked, Opened, View}
 use Rattle.theory.specs.Records.{Record, Records, endedAt, begunAt, Apart, place?, PutAt, Emptied}
 use Rattle.theory.specs.State.{Shape, relinkedShape, rewritten, appended, openedShape}
-use Rattle.theory.specs.BookLaws.{noted, tabulate, tabulate-none, tabulate-same, tabulate-more, ended-table, ends-table, on-table, opens-table, last-table, length-tabulate, holds-table, lacks-table, standing-table, entries-table, holder-table, records-table}
+use Rattle.theory.specs.BookLaws.{noted, tabulate, tabulate-none, tabulate-same, tabulate-more, ended-table, ends-table, on-table, opens-table}
+use Rattle.theory.specs.BookLaws.{last-table, length-tabulate, holds-table, lacks-table, standing-table, entries-table, holder-table}
+use Rattle.theory.specs.BookLaws.{records-table}
 use Rattle.theory.specs.Marks.{Pending, no-more, one-more}
 
 module _ (S : Shape) where

@@ -21,17 +21,16 @@ use Rattle.layout.specs.Settings.{Within}
 use Rattle.layout.specs.Memory.{Memory}
 use Rattle.layout.specs.Program.{runOn}
 use Rattle.calls.specs.Placing.{placeOf, blockOf, slotOf, unlink, endRecord, standing, putRecord, moveRecord, makeRoom, place, replace, close, judge, clearTag}
-use Rattle.calls.specs.Placing.{place, replace, close, judge, clearTag}
+use Rattle.calls.specs.Book.{Block, onBlock, closesAt, lastOf, appends, inOrder, judges, writes, layers, holderOf, endsIn, bookClear}
 use Rattle.theory.specs.RunLaws.{each-walk}
 use Rattle.theory.specs.Effects.{view, recordsOf, end-records, put-records}
 use Rattle.theory.specs.Records.{Placed, Record}
 use Rattle.theory.specs.Timeline.{Timeline, none, some, logged}
 use Rattle.theory.specs.Marks.{Pending, pending-frame}
 use Rattle.theory.specs.State.{Shape, shape, State, NoneDue, DueAnd, same-end, free, not-found, pending, alone, clearedAt}
-use Rattle.theory.specs.State.{unlink-shape, set-record, clearedAt, clear-record}
+use Rattle.theory.specs.State.{unlink-shape, set-record, clear-record}
 use Rattle.theory.specs.Moving.{Moving, moved-all, unlinked-moving, move-step, useful-set, useful-end, useful-judged, useful-all}
 use Rattle.theory.specs.Rolling.{Full, Rolled, room-law, rolled-write}
-use Rattle.calls.specs.Book.{Block, onBlock, closesAt, lastOf, appends, inOrder, judges, writes, layers, holderOf, endsIn, bookClear}
 use Rattle.theory.specs.Layers.{Write}
 use Rattle.theory.specs.BookOf.{sizeOf, blocksIn, bookOf, book-ends, last-size, full-size, book-last, book-holder}
 use Rattle.theory.specs.BookParts.{Writing, written, put-book, move-book, move-tags, unlink-writing, judges-slots}

@@ -17,8 +17,7 @@ use Rattle.layout.specs.Memory.{Memory}
 use Rattle.layout.specs.Program.{runOn}
 use Rattle.layout.specs.declared.settings.Settings.{Settings}
 use Rattle.calls.specs.Placing.{enterTime, openBlock, unlink, placeOf, endRecord, putRecord}
-use Rattle.theory.specs.Tree.{View}
-use Rattle.theory.specs.Row.{Put, Unlinked, Opened}
+use Rattle.theory.specs.Row.{Put, Unlinked, Opened, View}
 use Rattle.theory.specs.RunLaws.{met, _then_, Only, framed}
 use Rattle.theory.specs.Records.{Records, endedAt, PutAt, Emptied}
 use Rattle.theory.specs.Marks.{Marks, PutBit, apart-false, bit-on, bit-out}

@@ -4,7 +4,7 @@ use native.Mathlib.Omega.{arith}
 use native.Mathlib.Numerals.{add-one}
 use lib.ListN.{length}
 use Rattle.base.specs.Sums.{total, totals, total-length, upto, upto-suc}
-use Rattle.theory.specs.Tree.{View}
+use Rattle.theory.specs.Row.{View}
 use Rattle.theory.specs.Records.{Records, Stands, Kept}
 use Rattle.theory.specs.Moving.{AtLeast, enough, another}
 use Rattle.theory.specs.MemberLaws.{upto-grows, total-joined}

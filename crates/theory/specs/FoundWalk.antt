@@ -14,7 +14,8 @@ use Rattle.layout.specs.Fields.{closedWord, upWord, leftWord, childWord}
 use Rattle.layout.specs.Parts.{blockWord}
 use Rattle.layout.specs.Sizes.{pageLen}
 use Rattle.calls.specs.Calls.{Row}
-use Rattle.calls.specs.Walk.{Reader, Finding, unsound, found, Walk, listed, rowsOf, neighbour, visit, path, Pass, passing, lookUp, descend, topLevel, search, Looked, unsoundly, looked, within, onward, look}
+use Rattle.calls.specs.Walk.{Reader, Finding, unsound, found, Walk, listed, rowsOf, neighbour, visit, path, Pass, passing, lookUp, descend, topLevel}
+use Rattle.calls.specs.Walk.{search, Looked, unsoundly, looked, within, onward, look}
 
 -- the links of a block and the second of its closing, as a reader hands them out
 module _ (R : Reader) (n : ℕ) where

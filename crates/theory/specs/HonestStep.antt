@@ -91,16 +91,9 @@ module _ {ws : List ℕ} {a : Account} (i : Honest ws a) where
         counted = counted;
       })
 
-  -- what was logged by the clock was logged by then
-  timed-by : {now : ℕ} → c .clock ≤ now → a .clock ≤ now
-  timed-by h = omega (arith, i .clock)
-
   -- ---- what the tests that do not apply say
   abbrev Passed : Call → Type 0
   Passed x = All (λ y. y .applies ≡ false) (testsOf ws x)
-
-  clock-is : headOf ws .cursor .clock ≡ c .clock
-  clock-is = ap (λ (h : Head). h .cursor .clock) (head-is i)
 
   tags-are : headOf ws .settings .tags ≡ s .tags
   tags-are = ap (λ (h : Head). h .settings .tags) (head-is i)
@@ -112,11 +105,14 @@ module _ {ws : List ℕ} {a : Account} (i : Honest ws a) where
   -- a change at now
   record Timely (now : ℕ) : Type 0 where
     later : c .clock ≤ now
+    since : a .clock ≤ now
     ends : now < OPEN
 
   timely : (now : ℕ) {l : List Test} → All (λ y. y .applies ≡ false) (timeTests ws now l) → Timely now × All (λ y. y .applies ≡ false) l
   timely now (cons x₂ (cons x₃ (cons x₄ (cons x₅ (cons x₆ r))))) =
-      (record { later = omega (arith, ltb-false now (headOf ws .cursor .clock) x₆, clock-is); ends = leb-false OPEN now x₅ }, r)
+      let early = ltb-false now (headOf ws .cursor .clock) x₆ in
+      let is = ap (λ (h : Head). h .cursor .clock) (head-is i) in
+      (record { later = omega (arith, early, is); since = omega (arith, early, is, i .clock); ends = leb-false OPEN now x₅ }, r)
 
   -- ---- a clock move
   honest-advance : (now : ℕ) → Passed (Advance now) → Honest (step ws (Advance now) .store) (enters a (Advance now))
@@ -124,7 +120,7 @@ module _ {ws : List ℕ} {a : Account} (i : Honest ws a) where
   honest-advance now p =
       let k = timely now p .0 in
       ran (λ s c. advanceProgram s c now) p (advance-goes (head-sound i) f now) (advance-head s c now f) (after-advance (i .rest) (i .booked) now (k .later) (k .ends))
-      (λ t g o. refl) (i .once) (timed-later (timed-by (k .later)) (i .timed)) (i .counted)
+      (λ t g o. refl) (i .once) (timed-later (k .since) (i .timed)) (i .counted)
 
   -- ---- a set
   honest-set : (now tag reading : ℕ) → Passed (Set now tag reading) → Honest (step ws (Set now tag reading) .store) (enters a (Set now tag reading))
@@ -141,7 +137,7 @@ module _ {ws : List ℕ} {a : Account} (i : Honest ws a) where
           ran (λ s c. setProgram s c now tag reading) p (set-goes (head-sound i) f now tag known reading sound left) (set-head s c now f tag reading)
           (after-set (i .rest) (i .booked) now (k .later) (k .ends) tag reading known free)
           (λ t g o. sym (readings-set (a .log) now tag reading t g (λ l. absent t l o))) (once-set now tag (i .once) reading absent)
-          (timed-more (Set now tag reading) (timed-by (k .later)) (omega arith) (i .timed)) (counted-set now tag (omega (arith, k .ends)) (i .counted))
+          (timed-more (Set now tag reading) (k .since) (omega arith) (i .timed)) (counted-set now tag (omega (arith, k .ends)) (i .counted))
 
   -- ---- a clear, and a new reading
   -- what their own tests say
@@ -171,7 +167,7 @@ module _ {ws : List ℕ} {a : Account} (i : Honest ws a) where
       let sound = clear-sound c f (i .rest) f itself tag (w .known) (w .stands) 0 in
       ran (λ s c. clearProgram s c now tag) p (clear-call-goes (head-sound i) f now tag (w .known) (w .stands) sound (w .left)) (clear-head s c now f tag)
       (after-clear (i .rest) (i .booked) now (k .later) (k .ends) tag (w .stands)) (λ t g o. sym (readings-clear (a .log) now tag t g)) (once-clear now tag (i .once))
-      (timed-more (Clear now tag) (timed-by (k .later)) (omega arith) (i .timed)) (counted-clear now tag (omega (arith, k .ends)) (i .counted))
+      (timed-more (Clear now tag) (k .since) (omega arith) (i .timed)) (counted-clear now tag (omega (arith, k .ends)) (i .counted))
 
   honest-update : (now tag reading : ℕ) → Passed (Update now tag reading) → Honest (step ws (Update now tag reading) .store) (enters a (Update now tag reading))
   unfolding update
@@ -183,7 +179,7 @@ module _ {ws : List ℕ} {a : Account} (i : Honest ws a) where
       ran (λ s c. updateProgram s c now tag reading) p (update-goes (head-sound i) f now tag (w .known) (w .stands) reading sound (w .left))
       (update-head s c now f tag reading) (after-update (i .rest) (i .booked) now (k .later) (k .ends) tag (w .stands) reading (w .known))
       (λ t g o. sym (readings-update (a .log) now tag reading t g)) (once-update now tag (i .once) reading)
-      (timed-more (Update now tag reading) (timed-by (k .later)) (omega arith) (i .timed)) (counted-update now tag (omega (arith, k .ends)) (i .counted))
+      (timed-more (Update now tag reading) (k .since) (omega arith) (i .timed)) (counted-update now tag (omega (arith, k .ends)) (i .counted))
 
 -- ---- a start, on any words
 pub honest-start : (ws : List ℕ) (s : Settings) → All (λ y. y .applies ≡ false) (testsOf ws (Start s)) → Honest (step ws (Start s) .store) (opening s)

@@ -57,7 +57,8 @@ module _ {ws : List ℕ} {a : Account} (i : Honest ws a) (t : ℕ) where
   answered rows list v e =
       let k = view-claims ws t rows list v e in
       let o = second rows list (every-call ws (Ask (LookBack t rows list)) .accepted-iff .0 (ap accepted e)) in
-      let w : RightLook (a .settings .block) (i .cursor .opened) t (reader ws) (view (i .cursor) (i .memory)) (v .rows) (v .list) = rw (head-is i) at (walk-right ws (sound i t o) (k .walk .1)) in
+      let w : RightLook (a .settings .block) (i .cursor .opened) t (reader ws) (view (i .cursor) (i .memory)) (v .rows) (v .list) =
+      rw (head-is i) at (walk-right ws (sound i t o) (k .walk .1)) in
       record {
         walk = k .walk;
         log = same-perm row-discrete (rows-same w o);

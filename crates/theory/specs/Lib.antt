@@ -1,19 +1,24 @@
--- The tree of closed blocks, the row of open ones, and what the parts of a change do to them
-pub mod Tree
+-- The trees of closed blocks, the row of open ones, the index, and runs of a program
 pub mod Row
 pub mod RunLaws
-pub mod Effects
 pub mod Times
--- Records, their log, the directory and the standing bits
+-- Records, their directory and log, the standing bits, and what the parts of a change do to all of these
 pub mod Records
 pub mod Timeline
 pub mod Marks
--- The invariant, in the middle of a change and at rest
+pub mod Effects
+-- The invariant, in the middle of a change too
 pub mod State
 pub mod Moving
+-- The block book, and the book that a store shows
+pub mod BookLaws
+pub mod Layers
+pub mod Counting
+pub mod BookOf
+pub mod BookParts
+-- The changes, and the register at rest
 pub mod Rolling
 pub mod Changing
-pub mod Fresh
 pub mod Rest
 -- The closed words along a change, on any memory
 pub mod Closed
@@ -26,12 +31,6 @@ pub mod LogLaws
 pub mod SoFar
 pub mod RecordRows
 pub mod EnoughRows
--- The block book
-pub mod BookLaws
-pub mod Layers
-pub mod Counting
-pub mod BookOf
-pub mod BookParts
 -- The look-back, over any reader
 pub mod FoundWalk
 pub mod Listed
@@ -43,6 +42,7 @@ pub mod StoreAlike
 -- Words that hold a memory, and every call on any words
 pub mod TestLaws
 pub mod Stored
+pub mod Fresh
 pub mod OneChange
 pub mod EveryCall
 pub mod EveryLookBack

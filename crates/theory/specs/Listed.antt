@@ -16,7 +16,7 @@ use Rattle.layout.specs.Sizes.{OPEN}
 use Rattle.calls.specs.Calls.{Row}
 use Rattle.calls.specs.Walk.{Reader, neighbour}
 use Rattle.theory.specs.FoundWalk.{closedOf, upOf, rowsIn, Visit, none, stop, deep, Path, top, step, leftOf, childOf}
-use Rattle.theory.specs.Tree.{View, Tree, leaf, node}
+use Rattle.theory.specs.Row.{View, Tree, leaf, node}
 
 -- ---- no block twice
 

@@ -8,6 +8,7 @@ use lib.Dec.{eqb}
 use lib.ListN.{getD}
 use borrow.Author.Tests.{ne-eqb}
 use Rattle.base.specs.Sums.{is, total}
+use Rattle.base.specs.Branch.{is?}
 use Rattle.layout.specs.declared.head.Head.{Head}
 use Rattle.layout.specs.declared.address.Address.{Address}
 use Rattle.layout.specs.declared.address.Address.the-variants.{Time, Field, Slot}
@@ -23,7 +24,6 @@ use Rattle.layout.specs.OverLaws.{over-read}
 use Rattle.calls.specs.Calls.{Row}
 use Rattle.calls.specs.Walk.{entries, Reader}
 use Rattle.calls.specs.LookBack.{reader}
-use Rattle.theory.specs.Tree.{View}
 use Rattle.theory.specs.Effects.{view, closed-word, recordsOf}
 use Rattle.theory.specs.State.{shape, State, NoneDue}
 use Rattle.theory.specs.Timeline.{Timeline}
@@ -32,8 +32,7 @@ use Rattle.theory.specs.FoundWalk.{rowsIn}
 use Rattle.theory.specs.Listed.{Agree, Rooted, rooted-open, rooted-closed}
 use Rattle.theory.specs.Right.{LookSound, allWeigh, all-weigh-is}
 use Rattle.theory.specs.Stored.{Stored, stored-at}
-use Rattle.base.specs.Branch.{is?}
-use Rattle.theory.specs.Row.{Linked}
+use Rattle.theory.specs.Row.{Linked, View}
 use Rattle.theory.specs.Times.{Indexed}
 use Rattle.theory.specs.SearchLaws.{entry, levels-hold}
 

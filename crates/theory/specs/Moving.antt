@@ -22,8 +22,7 @@ use Rattle.layout.specs.Fields.{tagWord, readingWord}
 use Rattle.layout.specs.Memory.{Memory}
 use Rattle.layout.specs.Program.{runOn}
 use Rattle.calls.specs.Placing.{placeOf, unlink, endRecord, putRecord, moveRecord}
-use Rattle.theory.specs.Tree.{View}
-use Rattle.theory.specs.Row.{Unlinked, Opened, Put}
+use Rattle.theory.specs.Row.{Unlinked, Opened, Put, View}
 use Rattle.theory.specs.Records.{Record, Records, Stands, endedAt, begunAt, place?, PutAt, Emptied}
 use Rattle.theory.specs.Timeline.{Timeline, told-alike, moved-log}
 use Rattle.theory.specs.Marks.{Marks, PutBit, Pending, no-more, one-more, pending-frame}

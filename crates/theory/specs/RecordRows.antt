@@ -17,7 +17,7 @@ use Rattle.layout.specs.Parts.{slotWord}
 use Rattle.calls.specs.Calls.{Row}
 use Rattle.calls.specs.Log.{Log, stateAt}
 use Rattle.calls.specs.Walk.{rowOf, rowsOf}
-use Rattle.theory.specs.Tree.{View}
+use Rattle.theory.specs.Row.{View}
 use Rattle.theory.specs.Records.{Record, Records, Stands, Kept}
 use Rattle.theory.specs.Timeline.{Timeline, Told, Reading, some}
 use Rattle.theory.specs.MemberLaws.{unique-nil, Among, all-members, same-members, sumTo-below, joined, joined-nil, total-joined, joined-members, members-joined, unique-joined}

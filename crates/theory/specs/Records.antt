@@ -8,8 +8,7 @@ use Rattle.base.specs.Branch.{is?}
 use Rattle.layout.specs.Sizes.{OPEN}
 use Rattle.layout.specs.declared.settings.Settings.{Settings}
 use Rattle.calls.specs.Placing.{placeOf}
-use Rattle.theory.specs.Tree.{View}
-use Rattle.theory.specs.Row.{Unlinked, Opened, Put}
+use Rattle.theory.specs.Row.{Unlinked, Opened, Put, View}
 
 pub record Record : Type 0 where
   pub tag : ℕ

@@ -13,14 +13,14 @@ use Rattle.base.specs.Branch.{lt?}
 use Rattle.base.specs.Sums.{is, total, total-nil, total-length, sumTo, sumTo-upto, sumTo-none, sumTo-same, sumTo-times}
 use Rattle.base.specs.Pigeonhole.{keyed, pigeonhole}
 use Rattle.layout.specs.Sizes.{pageLen}
+use Rattle.layout.specs.Head.{headOf}
 use Rattle.calls.specs.Calls.{Row}
 use Rattle.calls.specs.Walk.{Reader, Pass, entries, looked, look}
-use Rattle.theory.specs.Tree.{View}
+use Rattle.calls.specs.LookBack.{reader, lookAt, isUnsound}
+use Rattle.theory.specs.Row.{View}
 use Rattle.theory.specs.FoundWalk.{closedOf, rowsIn, Search, looks}
 use Rattle.theory.specs.Listed.{Apart, apart-wider, path-apart, outlasts, Late, late-outlasts, path-half, rowsWeigh, path-rows, Agree, Rooted, WholePath, whole-path}
 use Rattle.theory.specs.SearchLaws.{entry, finds}
-use Rattle.layout.specs.Head.{headOf}
-use Rattle.calls.specs.LookBack.{reader, lookAt, isUnsound}
 
 -- what all rows of blocks 1 to N at t weigh
 unfoldable pub allWeigh : ℕ → ℕ → ℕ → Reader → (Row → ℕ) → ℕ

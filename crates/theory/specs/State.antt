@@ -17,11 +17,12 @@ use Rattle.layout.specs.Settings.{Within}
 use Rattle.layout.specs.Memory.{Memory, put}
 use Rattle.layout.specs.Program.{runOn}
 use Rattle.calls.specs.Placing.{placeOf, openBlock, unlink, endRecord, putRecord}
-use Rattle.theory.specs.Tree.{View}
-use Rattle.theory.specs.Row.{Linked, Unlinked, unlinked, opened, later, Put}
-use Rattle.theory.specs.Effects.{view, put-is, open-effect, recordsOf, directoryOf, marksOf, end-records, end-marks, put-records, put-directory, put-marks, open-directory, open-marks-here, open-marks-other, open-records}
+use Rattle.theory.specs.Row.{Linked, Unlinked, unlinked, opened, later, Put, View}
+use Rattle.theory.specs.Effects.{view, put-is, open-effect, recordsOf, directoryOf, marksOf, end-records, end-marks, put-records, put-directory}
+use Rattle.theory.specs.Effects.{put-marks, open-directory, open-marks-here, open-marks-other, open-records}
 use Rattle.theory.specs.Times.{Indexed, indexed-open, indexed-same, times, open-enters}
-use Rattle.theory.specs.Records.{Record, Records, Stands, place?, Kept, kept-later, kept-put, kept-end, kept-unlink, kept-open, Found, found-put, found-end, found-open, PutAt, endedAt}
+use Rattle.theory.specs.Records.{Record, Records, Stands, place?, Kept, kept-later, kept-put, kept-end, kept-unlink, kept-open, Found, found-put}
+use Rattle.theory.specs.Records.{found-end, found-open, PutAt, endedAt}
 use Rattle.theory.specs.Timeline.{Timeline, Told, told-put, told-end, told-open, Reading, none, some, logged}
 use Rattle.theory.specs.Marks.{Marks, Marked, marked-at, marked-open, Pending, pending-slots, PutBit}
 

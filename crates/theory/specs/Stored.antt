@@ -55,7 +55,9 @@ only-each body h (k ∷ l) x = (h k x, λ y. only-each body h l y)
 
 only-open : (c : Cursor) (now : ℕ) → Only headless (openBlock c now)
 unfolding openBlock
-only-open c now = (enter-only headless (λ l i. refl) (c .opened) now, λ _. ((outside (c .opened + 1), tt), λ _. ((refl, tt), λ _. ((refl, tt), λ _. ((refl, tt), λ _. (tt, ((refl, tt), λ _. tt)))))))
+only-open c now =
+    enter-only headless (λ l i. refl) (c .opened) now then λ _. met (outside (c .opened + 1)) then λ _. met refl then λ _. met refl then λ _.
+    met refl then λ _. tt then met refl then λ _. tt
 
 only-unlink : (c : Cursor) (x now : ℕ) → Only headless (unlink c x now)
 unfolding unlink
