@@ -3,7 +3,7 @@
 -- slots taken; then there is room for all that still come (After).
 use mathlib.Core.Path.{_≡_, refl, sym, ap, _∙_, subst}
 use mathlib.Core.Logic.{_≢_}
-use mathlib.Core.Bool.{Bool, true, false, cond, _&&_, and-true, and-false}
+use mathlib.Core.Bool.{Bool, false, cond, _&&_, and-true, and-false}
 use mathlib.Core.List.{List, _∷_}
 use Prim.Native.Nat.{ℕ, suc, _+_, _*_, _-_, _≤_, _<_}
 use native.Mathlib.Omega.{arith}
@@ -15,8 +15,7 @@ use Rattle.base.specs.Bits.{withoutBit}
 use Rattle.layout.specs.declared.settings.Settings.{Settings}
 use Rattle.layout.specs.declared.head.Cursor.{Cursor}
 use Rattle.layout.specs.declared.standing.Standing.{Standing}
-use Rattle.layout.specs.declared.address.Address.{Address}
-use Rattle.layout.specs.declared.address.Address.the-variants.{Head, Time, Dir, Field, Bits, Slot}
+use Rattle.layout.specs.declared.address.Address.the-variants.{Field, Slot}
 use Rattle.layout.specs.Sizes.{OPEN}
 use Rattle.layout.specs.Fields.{closedWord, upWord, tagWord, readingWord}
 use Rattle.layout.specs.Settings.{Within}
@@ -26,8 +25,9 @@ use Rattle.layout.specs.Standing.{slots, raised, blockBits}
 use Rattle.calls.specs.Placing.{enterTime, openBlock, unlink, endRecord, standing, putRecord, moveRecord, closeFull, judgeFull, roll, makeRoom, place, replace}
 use Rattle.calls.specs.Refusals.{takenUp}
 use Rattle.safety.specs.Sound.{bit-raised, bit-elsewhere}
-use Rattle.theory.specs.RunLaws.{each-walk, framed}
-use Rattle.theory.specs.Effects.{enter-only}
+use Rattle.theory.specs.RunLaws.{each-walk}
+use Rattle.theory.specs.Effects.{enter-keeps, open-marks-other}
+use Rattle.theory.specs.State.{open-cursor}
 
 abbrev pub closedOf : Memory → ℕ → ℕ
 closedOf f n = f (Field n closedWord)
@@ -51,24 +51,6 @@ unlink-shuts c x now f =
     (λ t. record { opened = refl; fill = refl; closed = λ n. refl; bits = λ n. refl })
 
 -- ---- block N + 1 opens
-record Kept (f g : Memory) : Type 0 where
-  closed : (n : ℕ) → closedOf g n ≡ closedOf f n
-  bits : (n : ℕ) → blockBits g n ≡ blockBits f n
-
--- the index alone
-abbrev inIndex : Address → Bool
-inIndex (Head j) = false
-inIndex (Time l i) = true
-inIndex (Dir t) = false
-inIndex (Field n j) = false
-inIndex (Bits n w) = false
-inIndex (Slot n k i) = false
-
-times-kept : (i now : ℕ) (f : Memory) → Kept f ((runOn (enterTime i now) f) .1)
-times-kept i now f =
-    let same : (a : Address) → inIndex a ≡ false → (runOn (enterTime i now) f) .1 a ≡ f a = framed inIndex (enterTime i now) f (enter-only inIndex (λ l k. refl) i now) in
-    record { closed = λ n. same (Field n closedWord) refl; bits = λ n j. record { low = same (Bits n 0) refl j; high = same (Bits n 1) refl j } }
-
 pub record Grown (f : Memory) (c d : Cursor) (g : Memory) : Type 0 where
   pub opened : d .opened ≡ c .opened + 1
   pub fill : d .fill ≡ 0
@@ -79,23 +61,16 @@ pub record Grown (f : Memory) (c d : Cursor) (g : Memory) : Type 0 where
 pub open-grows : (c : Cursor) (now : ℕ) (f : Memory) → let z = runOn (openBlock c now) f in Grown f c (z .0) (z .1)
 unfolding openBlock
 open-grows c now f =
-    let k = times-kept (c .opened) now f in
-    let old : (n : ℕ) → n ≢ c .opened + 1 → eqb (c .opened + 1) n ≡ false = λ n d. ne-eqb (c .opened + 1) n (λ e. d (sym e)) in
-    cond-all (λ (z : Cursor × Memory). Grown f c (z .0) (z .1)) (eqb (c .opened) 0)
-    (λ t. record {
-      opened = refl;
-      fill = refl;
-      closed = λ n d. simp (old n d) (k .closed n);
-      bits = λ n d. simp (old n d) (k .bits n);
-      new = simp eqb-same;
-    })
-    (λ t. record {
-      opened = refl;
-      fill = refl;
-      closed = λ n d. simp (old n d) (k .closed n);
-      bits = λ n d. simp (old n d) (k .bits n);
-      new = simp eqb-same;
-    })
+    let N = c .opened in
+    let old : (n : ℕ) → n ≢ N + 1 → eqb (N + 1) n ≡ false = λ n d. ne-eqb (N + 1) n (λ e. d (sym e)) in
+    let kept : (n : ℕ) → (runOn (enterTime N now) f) .1 (Field n closedWord) ≡ closedOf f n = λ n. enter-keeps N now f (Field n closedWord) refl in
+    record {
+      opened = open-cursor c now f .0;
+      fill = open-cursor c now f .1;
+      closed = λ n d. cond-all (λ (z : Cursor × Memory). closedOf (z .1) n ≡ closedOf f n) (eqb N 0) (λ t. simp (old n d) (kept n)) (λ t. simp (old n d) (kept n));
+      bits = λ n d k. record { low = open-marks-other c now f n 0 d k; high = open-marks-other c now f n 1 d k };
+      new = cond-all (λ (z : Cursor × Memory). closedOf (z .1) (N + 1) ≡ OPEN) (eqb N 0) (λ t. simp eqb-same) (λ t. simp eqb-same);
+    }
 
 -- ---- the old acceptor is judged: its slots go to the new block
 record Emptied (g₀ : Memory) (y total : ℕ) (l : List ℕ) (c : Cursor) (g : Memory) : Type 0 where

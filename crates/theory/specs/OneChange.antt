@@ -50,11 +50,8 @@ closing-small ws us n =
     is-small ((ltb (headOf ws .cursor .opened) n || eqb (wordsRead ws (Field n closedWord)) OPEN) && not (eqb (wordsRead us (Field n closedWord)) OPEN))
 
 -- ---- a store to itself
-sumTo-first : (w : ℕ → ℕ) → sumTo 0 w ≡ 0
-unfolding sumTo
-sumTo-first w = refl
-
 pub small-same : (ws : List ℕ) → Small ws ws
+unfolding sumTo
 small-same ws = record {
   opens = omega arith;
   keeps = omega arith;
@@ -62,7 +59,7 @@ small-same ws = record {
       let N = headOf ws .cursor .opened in
       let none : sumTo N (closing ws ws) ≡ 0 =
       sym (sumTo-none (closing ws ws) 0 N (omega arith)
-      (λ m a b. rw (le-ltb N m b) (not-closed (eqb (wordsRead ws (Field m closedWord)) OPEN)))) ∙ sumTo-first (closing ws ws) in
+      (λ m a b. rw (le-ltb N m b) (not-closed (eqb (wordsRead ws (Field m closedWord)) OPEN)))) in
       omega arith;
 }
 

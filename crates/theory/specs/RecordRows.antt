@@ -17,13 +17,10 @@ use Rattle.layout.specs.Parts.{slotWord}
 use Rattle.calls.specs.Calls.{Row}
 use Rattle.calls.specs.Log.{Log, stateAt}
 use Rattle.calls.specs.Walk.{rowOf, rowsOf}
-use Rattle.theory.specs.Tree.{View}
-use Rattle.theory.specs.Reading.{Reading, some}
+use Rattle.theory.specs.Row.{View}
 use Rattle.theory.specs.Records.{Record, Records, Stands, Kept}
-use Rattle.theory.specs.Timeline.{Timeline, Told}
-use Rattle.theory.specs.SumLaws.{sumTo-below}
-use Rattle.theory.specs.MemberLaws.{unique-nil, Among, all-members, same-members}
-use Rattle.theory.specs.Joined.{joined, joined-nil, total-joined, joined-members, members-joined, unique-joined}
+use Rattle.theory.specs.Timeline.{Timeline, Told, Reading, some}
+use Rattle.theory.specs.MemberLaws.{unique-nil, Among, all-members, same-members, sumTo-below, joined, joined-nil, total-joined, joined-members, members-joined, unique-joined}
 use Rattle.theory.specs.LogLaws.{readings, reading-member, member-reading, UniqueTags, Once}
 
 abbrev pub rowOfRecord : Record → Row
@@ -191,6 +188,3 @@ module _ {R : Records} {v : View} {b tags N fill clock : ℕ} (kept : Kept R v b
 
     pub rows-log : Same (rowsAt b N t R) (stateAt log t)
     rows-log = same-members (λ r. r .tag) _ _ (rows-once told b N t o) (once .at t o) in-log in-records
-
-    pub rows-log-sum : (w : Row → ℕ) → sumTo N (λ m. total w (standingRows b t (R m))) ≡ total w (stateAt log t)
-    rows-log-sum w = rows-sum b N t R w ∙ rows-log .sums w

@@ -13,15 +13,14 @@ use Rattle.base.specs.Branch.{lt?}
 use Rattle.base.specs.Sums.{is, total, total-nil, total-length, sumTo, sumTo-upto, sumTo-none, sumTo-same, sumTo-times}
 use Rattle.base.specs.Pigeonhole.{keyed, pigeonhole}
 use Rattle.layout.specs.Sizes.{pageLen}
+use Rattle.layout.specs.Head.{headOf}
 use Rattle.calls.specs.Calls.{Row}
 use Rattle.calls.specs.Walk.{Reader, Pass, entries, looked, look}
-use Rattle.theory.specs.Tree.{View}
-use Rattle.theory.specs.FoundWalk.{closedOf, rowsIn}
-use Rattle.theory.specs.Listed.{Apart, apart-wider, path-apart, outlasts, Late, late-outlasts, path-half, rowsWeigh, path-rows}
-use Rattle.theory.specs.FoundSearch.{Search}
+use Rattle.calls.specs.LookBack.{reader, lookAt, isUnsound}
+use Rattle.theory.specs.Row.{View}
+use Rattle.theory.specs.FoundWalk.{closedOf, rowsIn, Search, looks}
+use Rattle.theory.specs.Listed.{Apart, apart-wider, path-apart, outlasts, Late, late-outlasts, path-half, rowsWeigh, path-rows, Agree, Rooted, WholePath, whole-path}
 use Rattle.theory.specs.SearchLaws.{entry, finds}
-use Rattle.theory.specs.WalkTree.{Agree, Rooted, WholePath, whole-path}
-use Rattle.theory.specs.Looking.{looks}
 
 -- what all rows of blocks 1 to N at t weigh
 unfoldable pub allWeigh : ℕ → ℕ → ℕ → Reader → (Row → ℕ) → ℕ
@@ -179,3 +178,15 @@ module _ {b d N t : ℕ} {R : Reader} {v : View} (s : LookSound b d N t R v) whe
       let i : x .rows ≡ r = cc (x .seen) in
       let j : x .list ≡ l = cc (x .seen) in
       rw (i, j) at (x .right)
+
+-- said of the words: the walk is sound, and what it finds is right
+module _ (ws : List ℕ) {t : ℕ} {v : View}
+    (s : LookSound (headOf ws .settings .block) (headOf ws .settings .tags) (headOf ws .cursor .opened) t (reader ws) v) where
+  pub walk-sound : isUnsound (lookAt ws t) ≡ false
+  unfolding lookAt
+  walk-sound = rw (look-answered s .seen)
+
+  pub walk-right : {r : List Row} {l : List ℕ} {ps : List Pass} → lookAt ws t ≡ looked r l ps
+      → RightLook (headOf ws .settings .block) (headOf ws .cursor .opened) t (reader ws) v r l
+  unfolding lookAt
+  walk-right e = look-right s e

@@ -1,12 +1,11 @@
 -- TABLES OF TESTS: the first refusal that applies, and what it says of the table.
 use mathlib.Core.Path.{_≡_, refl, sym, _∙_, subst}
-use mathlib.Core.Logic.{_≢_}
 use mathlib.Core.Bool.{Bool, true, false, cond, not, _&&_, _||_}
 use mathlib.Core.List.{List, [], _∷_}
 use Prim.Native.Nat.{ℕ, _<_}
 use native.Mathlib.Omega.{arith}
 use lib.Dec.{eqb, ltb}
-use borrow.Author.Tests.{eq-eqb, ltb-true, not-true}
+use borrow.Author.Tests.{eq-eqb, ltb-true}
 use Rattle.base.specs.Branch.{by-test, and-true}
 use Rattle.base.specs.Sums.{All, nil, cons}
 use Rattle.calls.specs.Refusals.{Test, refusal}
@@ -42,19 +41,6 @@ pub clash : {l : List Test} {n : ℕ} → All (λ x. x .applies ≡ false) l →
 clash (cons e a) (here f) = let z : _≡_ {A = ℕ} 0 1 = cc in omega arith
 clash (cons e a) (later f r) = clash a r
 
--- a number that no test has that may apply is never answered
-abbrev pub lacks : ℕ → List Test → Bool
-lacks m [] = true
-lacks m (x ∷ l) = (not (eqb (x .number) m) || not (x .applies)) && lacks m l
-
-pub refusal-lacks : (m : ℕ) (l : List Test) → 0 < m → lacks m l ≡ true → refusal l ≢ m
-refusal-lacks m [] p k = λ e. omega arith
-refusal-lacks m (x ∷ l) p k =
-    let a = and-true (not (eqb (x .number) m) || not (x .applies)) (lacks m l) k in
-    by-test (x .applies) (λ t. (not (eqb (x .number) m) || not t) ≡ true → cond t (x .number) (refusal l) ≢ m)
-    (λ e q z. let y : (not (eqb (x .number) m) || false) ≡ false = rw (eq-eqb (x .number) m z) in let w : _≡_ {A = ℕ} 0 1 = cc in omega arith)
-    (λ e q. refusal-lacks m l p (a .1)) (a .0)
-
 -- ---- two tables that decide alike: the second has the tests of the first, but for some that never apply. A later test need only be alike where the ones
 -- before it do not apply.
 pub data Alike : List Test → List Test → Type 0 where
@@ -81,13 +67,13 @@ alike-first (both n e r) (later f q) = let g = sym e ∙ f in later g (alike-fir
 alike-first (idle e r) (here f) = no f e
 alike-first (idle e r) (later f q) = alike-first r q
 
--- a number that no test has is not the first
-abbrev pub without : ℕ → List Test → Bool
-without n [] = true
-without n (x ∷ l) = not (eqb (x .number) n) && without n l
+-- a number that no test has that may apply is not the first
+abbrev pub lacks : ℕ → List Test → Bool
+lacks m [] = true
+lacks m (x ∷ l) = (not (eqb (x .number) m) || not (x .applies)) && lacks m l
 
-pub never-first : {n : ℕ} {l : List Test} → without n l ≡ true → First l n → ⊥
+pub never-first : {n : ℕ} {l : List Test} → lacks n l ≡ true → First l n → ⊥
 never-first k (here {x} {l} f) =
-    let z = and-true (not (eqb (x .number) (x .number))) (without (x .number) l) k in
-    no (eq-eqb (x .number) (x .number) refl) (not-true _ (z .0))
-never-first {n} k (later {x} {l} f q) = never-first (and-true (not (eqb (x .number) n)) (without n l) k .1) q
+    let z = and-true (not (eqb (x .number) (x .number)) || not (x .applies)) (lacks (x .number) l) k in
+    no (z .0) (rw (eq-eqb (x .number) (x .number) refl, f))
+never-first {n} k (later {x} {l} f q) = never-first (and-true (not (eqb (x .number) n) || not (x .applies)) (lacks n l) k .1) q
