@@ -7,12 +7,6 @@ use Rattle.layout.specs.StandingLaws.{bit-one}
 use Rattle.layout.proofs.standing.bit_off.Statement.{statement}
 use Rattle.layout.proofs.standing.bit_off.Tie as tie
 
-bit-requires : tie.Need-bit-requires
-bit-requires c κs = search needs
-
-weight-requires : tie.Need-weight-requires
-weight-requires c κs = search needs
-
 sub-result : tie.Need-sub-result
 sub-result c = omega (arith, bit-weighs (c .before .before .before .args .k) (c .before .before .before .args .x) (bit-one _ _ (sym (c .before .before .bit .ensures) ∙ c .before .if1 .taken)))
 
@@ -25,4 +19,4 @@ unfolding withoutBit
 returns-2 c = rw (sym (c .before .bit .ensures) ∙ c .if1 .left)
 
 pub bit-off-spec : {M : Type 1} → statement M
-bit-off-spec = tie.close (tie.spec bit-requires weight-requires sub-result returns returns-2)
+bit-off-spec = tie.close (tie.spec (search needs) (search needs) sub-result returns returns-2)

@@ -7,15 +7,9 @@ use Rattle.layout.specs.StandingLaws.{bit-zero}
 use Rattle.layout.proofs.standing.bit_on.Statement.{statement}
 use Rattle.layout.proofs.standing.bit_on.Tie as tie
 
-bit-requires : tie.Need-bit-requires
-bit-requires c κs = search needs
-
 returns : tie.Need-returns
 unfolding withBit
 returns c = rw (sym (c .before .bit .ensures) ∙ c .if1 .taken)
-
-weight-requires : tie.Need-weight-requires
-weight-requires c κs = search needs
 
 add-result : tie.Need-add-result
 add-result c = omega (arith, set-below 32 (c .before .before .before .args .k) (c .before .before .before .args .x) (omega arith) (omega arith) (bit-zero _ _ (sym (c .before .before .bit .ensures) ∙ c .before .if1 .left)))
@@ -25,4 +19,4 @@ unfolding withBit
 returns-2 c = rw (sym (c .before .before .bit .ensures) ∙ c .before .if1 .left, c .weight .ensures)
 
 pub bit-on-spec : {M : Type 1} → statement M
-bit-on-spec = tie.close (tie.spec bit-requires returns weight-requires add-result returns-2)
+bit-on-spec = tie.close (tie.spec (search needs) returns (search needs) add-result returns-2)
