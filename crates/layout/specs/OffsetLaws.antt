@@ -15,7 +15,7 @@ use Rattle.layout.specs.Settings.{Within}
 use Rattle.layout.specs.Words.{readWord, writeWord, wipeBlock}
 use Rattle.layout.specs.Ran.{Ran}
 use Rattle.layout.specs.OnWords.{over, Held, held-fits, fits-same}
-use Rattle.layout.specs.SettingsLaws.{BlockLong, layout-len, layout-least, layout-most}
+use Rattle.layout.specs.SettingsLaws.{BlockLong, layout-len, layout-most}
 use Rattle.layout.specs.AddressLaws.{offset-below}
 
 -- level l starts at r
@@ -77,10 +77,6 @@ module _ {s : Settings} {ws : List ℕ} (h : Held s ws) where
 
   pub block-in-store : {n a b : ℕ} → BlockAt s n a → BlockLong s b → a + b ≤ length ws
   block-in-store p l = omega (arith, held-fits h .long)
-
-  -- and so are the head and the index
-  pub index-in-store : dirStart ≤ length ws
-  index-in-store = omega (arith, held-fits h .long, layout-least s)
 
   -- the word at an address's place was read,
   pub ran-read : {a : Address} {r : ℕ} → Placed s a r → Ran (over s) (get! a) ws (getD ws r 0) ws

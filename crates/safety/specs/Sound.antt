@@ -19,16 +19,16 @@ use Rattle.layout.specs.declared.address.Address.the-variants.{Field, Bits, Slo
 use Rattle.layout.specs.Fields.{upWord, rightWord, tagWord}
 use Rattle.layout.specs.Memory.{Memory, put}
 use Rattle.layout.specs.Standing.{slots, stands, raised, lowered, blockBits}
-use Rattle.layout.specs.StandingLaws.{slots-list, lowered-stands, lowered-other}
+use Rattle.layout.specs.StandingLaws.{slots-list, changed, raise-is, lower-is, lowered-stands, lowered-other}
 use Rattle.calls.specs.Refusals.{anyOf, badBlock}
 
 -- ---- one bit of a block changed, as the programs write it
 abbrev pub oneBit : (ℕ → ℕ → ℕ) → Memory → ℕ → ℕ → Memory
 oneBit change f n k = put f (Bits n (k / 32)) (change (k % 32) (f (Bits n (k / 32))))
 
-pub bit-raised : (f : Memory) (n k : ℕ) → k < 64 → blockBits (oneBit withBit f n k) n ≡ raised (blockBits f n) k
-unfolding raised
-bit-raised f n k h = lt? k 32
+bit-changed : (change : ℕ → ℕ → ℕ) (f : Memory) (n k : ℕ) → k < 64 → blockBits (oneBit change f n k) n ≡ changed change (blockBits f n) k
+unfolding changed
+bit-changed change f n k h = lt? k 32
     (λ l.
     let e : k / 32 ≡ 0 = omega arith in
     let e′ : k % 32 ≡ k = omega arith in
@@ -38,17 +38,11 @@ bit-raised f n k h = lt? k 32
     let e′ : k % 32 ≡ k - 32 = omega arith in
     simp (e, e′, eqb-same, le-ltb k 32 l))
 
+pub bit-raised : (f : Memory) (n k : ℕ) → k < 64 → blockBits (oneBit withBit f n k) n ≡ raised (blockBits f n) k
+bit-raised f n k h = bit-changed withBit f n k h ∙ sym (raise-is (blockBits f n) k)
+
 pub bit-lowered : (f : Memory) (n k : ℕ) → k < 64 → blockBits (oneBit withoutBit f n k) n ≡ lowered (blockBits f n) k
-unfolding lowered
-bit-lowered f n k h = lt? k 32
-    (λ l.
-    let e : k / 32 ≡ 0 = omega arith in
-    let e′ : k % 32 ≡ k = omega arith in
-    simp (e, e′, eqb-same, lt-ltb k 32 l))
-    (λ l.
-    let e : k / 32 ≡ 1 = omega arith in
-    let e′ : k % 32 ≡ k - 32 = omega arith in
-    simp (e, e′, eqb-same, le-ltb k 32 l))
+bit-lowered f n k h = bit-changed withoutBit f n k h ∙ sym (lower-is (blockBits f n) k)
 
 pub and-none : (a : Bool) → (a && false) ≡ false
 and-none true = refl

@@ -3,10 +3,9 @@
 use mathlib.Core.Path.{_≡_, refl, ap, sym, _∙_, subst}
 use mathlib.Core.Logic.{_≢_}
 use mathlib.Core.Bool.{Bool, true, false, cond, not, _&&_, _||_}
-use Prim.Native.Nat.{ℕ, _+_, _*_, _-_, _/_, _≤_, _<_}
+use Prim.Native.Nat.{ℕ, _+_, _-_, _≤_, _<_}
 use native.Mathlib.Omega.{arith}
-use native.Mathlib.Nat.{zero-add, mod-lt, div-lt-iff-lt-mul}
-use lib.Arith.{digits-lt}
+use native.Mathlib.Nat.{zero-add}
 use lib.Dec.{eqb, ltb}
 use lib.ListN.{length}
 use borrow.Author.Tests.{eqb-false, eq-eqb, ne-eqb, ltb-true, ltb-false, lt-ltb, le-ltb, not-false}
@@ -19,9 +18,10 @@ use Rattle.layout.specs.Fields.{rightWord, tagWord}
 use Rattle.layout.specs.Memory.{Memory}
 use Rattle.layout.specs.Head.{placed}
 use Rattle.layout.specs.HeadLaws.{SoundHead}
+use Rattle.layout.specs.Spot.{Lies, place-lies}
 use Rattle.layout.specs.Standing.{slots, stands, lowered, blockBits}
 use Rattle.layout.specs.StandingLaws.{lowered-fewer}
-use Rattle.calls.specs.Placing.{blockOf, slotOf}
+use Rattle.calls.specs.Placing.{slotOf}
 use Rattle.calls.specs.Refusals.{opens, takenUp, acceptorCloses, tagBlock, remaining, closes, copies, afterClear, badPlace, badBlock, unsoundSet, unsoundClear, blocksOut}
 use Rattle.safety.specs.Sound.{Sound, Between, found-sound, found-right}
 use Rattle.safety.specs.Parts.{Ended}
@@ -72,34 +72,6 @@ module _ (h : Head) (sound : SoundHead h) where
   pub set-ready : (f : Memory) → unsoundSet h f ≡ false → blocksOut h 1 ≡ false → Ready s f 1 (h .cursor .opened) (h .cursor .fill)
   unfolding unsoundSet
   set-ready f bad out = ready-for f (blockBits f (h .cursor .opened)) (sound .within .some) out bad refl (λ i. i)
-
--- ---- a place, not 0 and not above the records placed, lies in a block opened
-pub record Lies (h : Head) (p : ℕ) : Type 0 where
-  pub some : 1 ≤ h .cursor .opened
-  pub high : blockOf (h .settings) p ≤ h .cursor .opened
-  pub slot : slotOf (h .settings) p < h .settings .block
-
-place-high : (b p n fill : ℕ) → 1 ≤ b → 1 ≤ p → 1 ≤ n → 1 ≤ fill → fill ≤ b → p ≤ (n - 1) * b + fill → (p - 1) / b + 1 ≤ n
-place-high b p n fill some one low used fits most =
-    let x : n - 1 < n = omega arith in
-    let y : fill - 1 < b = omega arith in
-    let w : p - 1 < n * b = omega (arith, digits-lt x y) in
-    let v : (p - 1) / b < n = div-lt-iff-lt-mul some .1 w in
-    omega arith
-
-pub place-lies : (h : Head) (p : ℕ) → SoundHead h → 1 ≤ p → p ≤ placed h → Lies h p
-unfolding placed
-place-lies h p sound one most =
-    let N = h .cursor .opened in
-    let b = h .settings .block in
-    let some : 1 ≤ b = omega (arith, sound .within .least) in
-    let low : 1 ≤ N = is? N 0 (λ z. let y : p ≤ 0 = rw (eq-eqb N 0 z) at most in absurd (omega arith)) (λ z. omega arith) in
-    let y : p ≤ (N - 1) * b + h .cursor .fill = rw (ne-eqb N 0 (λ z. omega arith)) at most in
-    record {
-      some = low;
-      high = place-high b p N (h .cursor .fill) some one low (sound .some low) (sound .fill) y;
-      slot = mod-lt (p - 1) some;
-    }
 
 -- ---- a tag is to be cleared, with `more` records to come after the copies of its block: what refusal 12 says when it does not apply
 module _ (h : Head) (sound : SoundHead h) (f : Memory) (tag : ℕ) (d : f (Dir tag) ≢ 0) (more : ℕ) (bad : unsoundClear h f more tag ≡ false) where
