@@ -5,9 +5,6 @@ use borrow.Author.Needs.{needs}
 use Rattle.timeslice.proofs.turned_away.Statement.{statement}
 use Rattle.timeslice.proofs.turned_away.Tie as tie
 
-words-requires : tie.Need-words-requires
-words-requires c κs = search needs
-
 returns : tie.Need-returns
 returns c =
     let a = c .before .before .args in
@@ -38,17 +35,8 @@ second-in-time c =
     in-time (a .h) (a .words) (a .second) (a .rows) (a .list) (at-words .words .ensures) (at-if2 .before .if1 .left) (at-if2 .if2 .left)
     (omega arith) (c .if3 .left)
 
-cast-if4 : tie.Need-cast-if4
-cast-if4 c = search needs
-
-mul-if4 : tie.Need-mul-if4
-mul-if4 c = search needs
-
 returns-4 : tie.Need-returns-4
 returns-4 c = own-rows _ _ _ _ _ (second-in-time (c .before .before)) (c .if4 .taken)
-
-cast-if5 : tie.Need-cast-if5
-cast-if5 c = search needs
 
 returns-5 : tie.Need-returns-5
 returns-5 c =
@@ -64,13 +52,13 @@ pub turned-away-spec : {M : Type 1} → statement M
 turned-away-spec =
     tie.close
     (tie.spec
-    words-requires
+    (search needs)
     returns
     returns-2
     returns-3
-    cast-if4
-    mul-if4
+    (search needs)
+    (search needs)
     returns-4
-    cast-if5
+    (search needs)
     returns-5
     returns-6)

@@ -4,9 +4,6 @@ use borrow.Author.Needs.{needs}
 use Rattle.timeslice.proofs.with_head.Statement.{statement}
 use Rattle.timeslice.proofs.with_head.Tie as tie
 
-turned-away-requires : tie.Need-turned-away-requires
-turned-away-requires c κs = search needs
-
 returns : tie.Need-returns
 returns c =
     let start = c .before .before .before .before .before in
@@ -24,12 +21,6 @@ answer-requires c κs =
           (start .args .rows .now) (start .args .list .now) (at-turned-away .turned-away .ensures) (at-if1 .if1 .left),
     )
 
-same-length : tie.Need-same-length
-same-length c = search needs
-
-same-length-2 : tie.Need-same-length-2
-same-length-2 c = search needs
-
 returns-2 : tie.Need-returns-2
 returns-2 c =
     let at-answer = c .before .before .before .before in
@@ -42,4 +33,4 @@ returns-2 c =
 pub with-head-spec : {M : Type 1} → statement M
 with-head-spec =
     tie.close
-    (tie.spec turned-away-requires returns answer-requires same-length same-length-2 returns-2)
+    (tie.spec (search needs) returns answer-requires (search needs) (search needs) returns-2)

@@ -4,20 +4,11 @@ use borrow.Author.Needs.{needs}
 use Rattle.timeslice.proofs.index.search.Statement.{statement}
 use Rattle.timeslice.proofs.index.search.Tie as tie
 
-at-requires : tie.Need-at-requires
-at-requires c κs = search needs
-
 returns : tie.Need-returns
 returns c = search-empty _ _ _ (c .before .if1 .taken) (c .at .ensures)
 
-top-level-requires : tie.Need-top-level-requires
-top-level-requires c κs = search needs
-
 look-up-requires : tie.Need-look-up-requires
 look-up-requires c κs = (top-page (c .before .before .before .pre) (c .before .if1 .left) (c .top-level .ensures))
-
-at-requires-2 : tie.Need-at-requires-2
-at-requires-2 c κs = search needs
 
 passing-requires : tie.Need-passing-requires
 passing-requires c κs = none-read (c .at2 .ensures)
@@ -31,9 +22,6 @@ returns-2 c =
     search-before _ _ _ (at-if1 .if1 .left) (at-top-level .top-level .ensures) (at-look-up .look-up .ensures)
     (at-if2 .if2 .taken) (c .before .at2 .ensures) (c .passing .ensures)
 
-sub-descend : tie.Need-sub-descend
-sub-descend c = search needs
-
 descend-requires : tie.Need-descend-requires
 descend-requires c κs =
     let at-top-level = c .before .before in
@@ -41,12 +29,6 @@ descend-requires c κs =
     let start = at-if1 .before .before in
     (top-entry (top-page (start .pre) (at-if1 .if1 .left) (at-top-level .top-level .ensures)) _ _ (c .before .look-up .ensures)
     (c .if2 .left))
-
-enum-told : tie.Need-enum-told
-enum-told c = search needs
-
-enum-known-found : tie.Need-enum-known-found
-enum-known-found c = search needs
 
 passing-requires-2 : tie.Need-passing-requires-2
 passing-requires-2 c κs =
@@ -85,17 +67,17 @@ pub search-spec : {M : Type 1} → statement M
 search-spec =
     tie.close
     (tie.spec
-    at-requires
+    (search needs)
     returns
-    top-level-requires
+    (search needs)
     look-up-requires
-    at-requires-2
+    (search needs)
     passing-requires
     returns-2
-    sub-descend
+    (search needs)
     descend-requires
-    enum-told
-    enum-known-found
+    (search needs)
+    (search needs)
     passing-requires-2
     returns-3
     returns-4)

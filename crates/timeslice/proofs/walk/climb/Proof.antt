@@ -5,32 +5,11 @@ use borrow.Author.Needs.{needs}
 use Rattle.timeslice.proofs.walk.climb.Statement.{statement}
 use Rattle.timeslice.proofs.walk.climb.Tie as tie
 
-block-requires : tie.Need-block-requires
-block-requires c κs = search needs
-
-block-word-requires : tie.Need-block-word-requires
-block-word-requires c κs = search needs
-
 returns : tie.Need-returns
 returns c =
     let at-block = c .before .before in
     let start = at-block .before .before .before .before in
     climb-above _ _ (block-is (start .pre .0) (at-block .block .ensures)) (c .before .block-word .ensures) (c .if1 .taken)
-
-list-block-requires : tie.Need-list-block-requires
-list-block-requires c κs = search needs
-
-enum-known-m : tie.Need-enum-known-m
-enum-known-m c = search needs
-
-enum-told : tie.Need-enum-told
-enum-told c = search needs
-
-same-length : tie.Need-same-length
-same-length c = search needs
-
-same-length-2 : tie.Need-same-length-2
-same-length-2 c = search needs
 
 returns-2 : tie.Need-returns-2
 returns-2 c =
@@ -53,12 +32,6 @@ neighbour-requires c κs =
           (start .pre .1 .0) (at-if1 .if1 .left),
     )
 
-same-length-3 : tie.Need-same-length-3
-same-length-3 c = search needs
-
-same-length-4 : tie.Need-same-length-4
-same-length-4 c = search needs
-
 returns-3 : tie.Need-returns-3
 returns-3 c =
     let at-m = c .before .before in
@@ -74,16 +47,16 @@ pub climb-spec : {M : Type 1} → statement M
 climb-spec =
     tie.close
     (tie.spec
-    block-requires
-    block-word-requires
+    (λ c κs. search needs)
+    (search needs)
     returns
-    list-block-requires
-    enum-known-m
-    enum-told
-    same-length
-    same-length-2
+    (λ c κs. search needs)
+    (search needs)
+    (search needs)
+    (search needs)
+    (search needs)
     returns-2
     neighbour-requires
-    same-length-3
-    same-length-4
+    (search needs)
+    (search needs)
     returns-3)

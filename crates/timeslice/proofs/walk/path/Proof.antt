@@ -34,18 +34,6 @@ climb-requires c κs =
       ),
     )
 
-enum-known-step : tie.Need-enum-known-step Inv-loop μ-loop
-enum-known-step c = search needs
-
-enum-told : tie.Need-enum-told Inv-loop μ-loop
-enum-told c = search needs
-
-same-length : tie.Need-same-length Inv-loop μ-loop
-same-length c = search needs
-
-same-length-2 : tie.Need-same-length-2 Inv-loop μ-loop
-same-length-2 c = search needs
-
 returns : tie.Need-returns Inv-loop μ-loop
 returns c =
     let at-climb = c .before .before .before .before .before .before in
@@ -63,18 +51,6 @@ visit-rows-requires c κs =
       visit-room (at-loop .loop .inv .0) (at-climb .climb .ensures) (at-step .step .given .1)
           (at-climb .climb .kept .1 .1 .1 .1 .0) (at-climb .climb .kept .1 .1 .1 .1 .1 .0),
     )
-
-enum-known-m : tie.Need-enum-known-m Inv-loop μ-loop
-enum-known-m c = search needs
-
-enum-told-2 : tie.Need-enum-told-2 Inv-loop μ-loop
-enum-told-2 c = search needs
-
-same-length-3 : tie.Need-same-length-3 Inv-loop μ-loop
-same-length-3 c = search needs
-
-same-length-4 : tie.Need-same-length-4 Inv-loop μ-loop
-same-length-4 c = search needs
 
 returns-2 : tie.Need-returns-2 Inv-loop μ-loop
 returns-2 c =
@@ -109,12 +85,6 @@ loop-again c =
           (at-visit .visit-rows .ensures) (c .before .m .given .1),
     )
 
-same-length-5 : tie.Need-same-length-5 Inv-loop μ-loop
-same-length-5 c = search needs
-
-same-length-6 : tie.Need-same-length-6 Inv-loop μ-loop
-same-length-6 c = search needs
-
 returns-3 : tie.Need-returns-3 Inv-loop μ-loop
 returns-3 c = path-ends (c .before .loop .inv .3) (omega arith) (c .before .loop .inv .0 .fits)
 
@@ -126,19 +96,19 @@ path-spec =
     μ-loop
     loop-holds
     climb-requires
-    enum-known-step
-    enum-told
-    same-length
-    same-length-2
+    (search needs)
+    (search needs)
+    (search needs)
+    (search needs)
     returns
     visit-rows-requires
-    enum-known-m
-    enum-told-2
-    same-length-3
-    same-length-4
+    (search needs)
+    (search needs)
+    (search needs)
+    (search needs)
     returns-2
     loop-less
     loop-again
-    same-length-5
-    same-length-6
+    (search needs)
+    (search needs)
     returns-3)

@@ -11,24 +11,12 @@ list-visit-requires c κs =
     let room = start .pre .1 in
     (start .pre .0, gap-list room)
 
-same-length : tie.Need-same-length
-same-length c = search needs
-
 returns : tie.Need-returns
 returns c =
     let at-list-visit = c .before .before .before in
     let start = at-list-visit .before .before .before .before .before in
     let room = start .pre .1 in
     visit-stops room (at-list-visit .list-visit .ensures) (c .if1 .taken)
-
-cast-first : tie.Need-cast-first
-cast-first c = search needs
-
-cast-end : tie.Need-cast-end
-cast-end c = search needs
-
-mul-take-listed : tie.Need-mul-take-listed
-mul-take-listed c = search needs
 
 sub-take-listed : tie.Need-sub-take-listed
 sub-take-listed c =
@@ -62,18 +50,6 @@ take-listed-requires c κs =
     let room = start .pre .1 in
     (start .pre .0, (part-numbered room (at-list-visit .list-visit .ensures) (omega (arith, at-if1 .if1 .left)), gap-rows room))
 
-enum-known-given : tie.Need-enum-known-given
-enum-known-given c = search needs
-
-enum-told : tie.Need-enum-told
-enum-told c = search needs
-
-same-length-2 : tie.Need-same-length-2
-same-length-2 c = search needs
-
-same-length-3 : tie.Need-same-length-3
-same-length-3 c = search needs
-
 returns-2 : tie.Need-returns-2
 returns-2 c =
     let at-take-listed = c .before .before .before .before in
@@ -83,12 +59,6 @@ returns-2 c =
     let room = start .pre .1 in
     visit-many room (at-list-visit .list-visit .ensures) (omega (arith, at-if1 .if1 .left))
     (at-take-listed .take-listed .ensures) (c .enum-told .given .1)
-
-same-length-4 : tie.Need-same-length-4
-same-length-4 c = search needs
-
-same-length-5 : tie.Need-same-length-5
-same-length-5 c = search needs
 
 returns-3 : tie.Need-returns-3
 returns-3 c =
@@ -105,20 +75,20 @@ visit-rows-spec =
     tie.close
     (tie.spec
     list-visit-requires
-    same-length
+    (search needs)
     returns
-    cast-first
-    cast-end
-    mul-take-listed
+    (search needs)
+    (search needs)
+    (search needs)
     sub-take-listed
     part-take-listed-start
     part-take-listed-end
     take-listed-requires
-    enum-known-given
-    enum-told
-    same-length-2
-    same-length-3
+    (search needs)
+    (search needs)
+    (search needs)
+    (search needs)
     returns-2
-    same-length-4
-    same-length-5
+    (search needs)
+    (search needs)
     returns-3)
