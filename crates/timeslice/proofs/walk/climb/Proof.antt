@@ -13,17 +13,18 @@ returns c =
 
 returns-2 : tie.Need-returns-2
 returns-2 c =
-    let at-list-block = c .before .before .before .before .before .before in
-    let at-if1 = at-list-block .before .before .before in
+    let at-take-rows = c .before .before .before .before in
+    let at-if1 = at-take-rows .before .before .before in
     let at-block-word = at-if1 .before in
     let at-block = at-block-word .before in
     let start = at-block .before .before .before .before in
     climb-full _ _ (block-is (start .pre .0) (at-block .block .ensures)) (at-block-word .block-word .ensures) (at-if1 .if1 .left)
-    (at-list-block .list-block .ensures) (c .enum-told .given .1)
+    (at-take-rows .take-rows .ensures) (c .enum-told .given .1)
 
 neighbour-requires : tie.Need-neighbour-requires
 neighbour-requires c κs =
-    let at-if1 = c .before .before .before .before .before .before .before .before .before .before in
+    let at-take-rows = c .before .before .before .before .before in
+    let at-if1 = at-take-rows .before .before .before in
     let at-block-word = at-if1 .before in
     let at-block = at-block-word .before in
     let start = at-block .before .before .before .before in (
@@ -34,14 +35,14 @@ neighbour-requires c κs =
 
 returns-3 : tie.Need-returns-3
 returns-3 c =
-    let at-m = c .before .before in
-    let at-list-block = at-m .before .before .before .before .before .before in
-    let at-if1 = at-list-block .before .before .before in
+    let at-given = c .before .before .before in
+    let at-take-rows = at-given .before .before .before .before in
+    let at-if1 = at-take-rows .before .before .before in
     let at-block-word = at-if1 .before in
     let at-block = at-block-word .before in
     let start = at-block .before .before .before .before in
     climb-on _ _ (block-is (start .pre .0) (at-block .block .ensures)) (at-block-word .block-word .ensures) (at-if1 .if1 .left)
-    (at-list-block .list-block .ensures) (at-m .m .given .1) (c .neighbour .ensures)
+    (at-take-rows .take-rows .ensures) (at-given .given .given .1) (c .before .neighbour .ensures)
 
 pub climb-spec : {M : Type 1} → statement M
 climb-spec =
@@ -50,6 +51,9 @@ climb-spec =
     (λ c κs. search needs)
     (search needs)
     returns
+    (search needs)
+    (search needs)
+    (search needs)
     (λ c κs. search needs)
     (search needs)
     (search needs)
@@ -57,6 +61,7 @@ climb-spec =
     (search needs)
     returns-2
     neighbour-requires
+    (search needs)
     (search needs)
     (search needs)
     returns-3)

@@ -6,9 +6,7 @@ use Rattle.timeslice.proofs.walk.enter.Statement.{statement}
 use Rattle.timeslice.proofs.walk.enter.Tie as tie
 
 returns : tie.Need-returns
-returns c =
-    let start = c .before .before .before .before in
-    enter-none (start .pre .1 .some) (c .if2 .taken)
+returns c = enter-none (c .if2 .taken)
 
 returns-2 : tie.Need-returns-2
 returns-2 c = enter-low (c .if2 .left) (c .before .if1 .taken)

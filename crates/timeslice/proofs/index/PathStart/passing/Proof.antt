@@ -4,7 +4,9 @@ use Rattle.timeslice.proofs.index.PathStart.passing.Statement.{statemen
 use Rattle.timeslice.proofs.index.PathStart.passing.Tie as tie
 
 returns : tie.Need-returns
-returns c = cc
+returns c =
+    let at-second = c .before in
+    rw (at-second .before .passed-on .ensures, at-second .passed-on2 .ensures, c .passed-on3 .ensures)
 
 pub passing-spec : {M : Type 1} → statement M
 passing-spec =
