@@ -12,8 +12,8 @@ use Rattle.calls.specs.LookBack.{lookBack}
 use Rattle.changes.specs.declared.Change.{Change}
 use Rattle.changes.specs.Replied.{Replied, answerOf}
 use Rattle.timeslice.specs.declared.Slice.{Slice}
-use Rattle.timeslice.specs.declared.Looked.{Looked}
-use Rattle.timeslice.specs.declared.Looked.the-variants as looked
+use Rattle.timeslice.specs.declared.SliceAnswer.{SliceAnswer}
+use Rattle.timeslice.specs.declared.SliceAnswer.the-variants as looked
 use Rattle.timeslice.specs.Answer.{Says, view, number, LookedBack}
 use Rattle.register.specs.Exports.{numberOf, sixWords, sixAfter, Exported, ExportedLookBack, wordsFor}
 
@@ -22,7 +22,7 @@ pub exported : {r : Reply} {c : Change} {n : ℕ} {words : List ℕ} → Replied
 exported e f = record { number = f ∙ ap numberOf (e .answer); store = e .store }
 
 -- ---- a look-back: refused, or answered with six words
-module _ {ws rows list rows′ list′ : List ℕ} {t : ℕ} {l : Looked} (b : LookedBack ws t rows list l rows′ list′) (six : List ℕ) where
+module _ {ws rows list rows′ list′ : List ℕ} {t : ℕ} {l : SliceAnswer} (b : LookedBack ws t rows list l rows′ list′) (six : List ℕ) where
   -- what is told of an answer, and the six words after it
   abbrev told-so : Answer → ℕ → List ℕ → Type 0
   told-so a n six′ = (n ≡ numberOf a) × (six′ ≡ sixAfter a six)

@@ -7,8 +7,8 @@ pub use applying::apply;
 pub use applying::replay;
 use changes::Change;
 use layout::settings::Settings;
-use timeslice::Looked;
 use timeslice::Slice;
+use timeslice::SliceAnswer;
 ghost use mathlib.Core.Path.{_≡_};
 ghost use lib.Seq.{sets};
 ghost use Rattle.layout.specs.Settings.{settingsOf};
@@ -98,8 +98,8 @@ pub extern "C" fn register_look_back(
 {
     let looked = timeslice::look_back(store, second, rows, list);
     match looked {
-        Looked::Refused(n) => n,
-        Looked::Answered(slice) => {
+        SliceAnswer::Refused(n) => n,
+        SliceAnswer::Answered(slice) => {
             put_six(answer, slice);
             0
         }
