@@ -21,8 +21,8 @@ use Rattle.theory.specs.EveryLookBack.{every-call}
 use Rattle.changes.specs.declared.Change.{Change}
 use Rattle.changes.specs.Replied.{Replied, answerOf}
 use Rattle.timeslice.specs.declared.Slice.{Slice}
-use Rattle.timeslice.specs.declared.Looked.{Looked}
-use Rattle.timeslice.specs.declared.Looked.the-variants as looked
+use Rattle.timeslice.specs.declared.SliceAnswer.{SliceAnswer}
+use Rattle.timeslice.specs.declared.SliceAnswer.the-variants as looked
 use Rattle.timeslice.specs.Answer.{Says, view, number, LookedBack}
 use Rattle.register.specs.Exports.{numberOf, sixWords, sixAfter, Exported, ExportedLookBack, wordsFor}
 
@@ -52,7 +52,7 @@ pub told-zero : (ws : List ℕ) (c : Call) → eqb (numberOf (step ws c .answer)
 told-zero ws c = zero-accepted (step ws c .answer) (λ n e. first-above (tests-numbered ws c) (every-call ws c .refused-first n e))
 
 -- ---- a look-back: refused, or answered with six words
-module _ {ws rows list rows′ list′ : List ℕ} {t : ℕ} {l : Looked} (b : LookedBack ws t rows list l rows′ list′) (six : List ℕ) where
+module _ {ws rows list rows′ list′ : List ℕ} {t : ℕ} {l : SliceAnswer} (b : LookedBack ws t rows list l rows′ list′) (six : List ℕ) where
   -- what is told of an answer, and the six words after it
   abbrev told-so : Answer → ℕ → List ℕ → Type 0
   told-so a n six′ = (n ≡ numberOf a) × (six′ ≡ sixAfter a six)

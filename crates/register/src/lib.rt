@@ -9,8 +9,8 @@ use changes::Change;
 pub use journal::Tally;
 pub use journal::replay;
 use layout::settings::Settings;
-use timeslice::Looked;
 use timeslice::Slice;
+use timeslice::SliceAnswer;
 ghost use mathlib.Core.Path.{_≡_};
 ghost use lib.Seq.{sets};
 ghost use Rattle.layout.specs.Settings.{settingsOf};
@@ -100,8 +100,8 @@ pub extern "C" fn register_look_back(
 {
     let looked = timeslice::look_back(store, second, rows, list);
     match looked {
-        Looked::Refused(n) => n,
-        Looked::Answered(slice) => {
+        SliceAnswer::Refused(n) => n,
+        SliceAnswer::Answered(slice) => {
             put_six(answer, slice);
             0
         }

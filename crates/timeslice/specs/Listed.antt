@@ -47,8 +47,7 @@ pub record InsideListed (s : Settings) (t : ℕ) (R : Reader) (lower upper numbe
 pub data Enters (s : Settings) (t : ℕ) (R : Reader) (lower upper number : ℕ) (list : List ℕ) (n : ℕ) : Entered → List ℕ → Type 0 where
   within : {m : ℕ} {list′ : List ℕ} → lower < number → number < upper → t < blockWord (R .block number) closedWord → m ≡ n + 1
       → list′ ≡ set list n number → Enters s t R lower upper number list n (Within m) list′
-  ended : {m : ℕ} {list′ : List ℕ} → VisitListed s t R lower upper number list n m list′ → 0 < m
-      → Enters s t R lower upper number list n (Ended m) list′
+  ended : {m : ℕ} {list′ : List ℕ} → VisitListed s t R lower upper number list n m list′ → Enters s t R lower upper number list n (Ended m) list′
   broken : {list′ : List ℕ} → VisitListed s t R lower upper number list n 0 list′ → Enters s t R lower upper number list n Unsound list′
 
 -- ---- what is asked
