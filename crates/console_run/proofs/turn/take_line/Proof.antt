@@ -4,23 +4,8 @@ use Rattle.console_run.specs.TurnLaws.{long-does, whole-does}
 use Rattle.console_run.proofs.turn.take_line.Statement.{statement}
 use Rattle.console_run.proofs.turn.take_line.Tie as tie
 
-bad-at-requires : tie.Need-bad-at-requires
-bad-at-requires c κs = search needs
-
 returns : tie.Need-returns
 returns c = long-does _ _ _ _ (c .before .if1 .taken) (c .bad-at .ensures)
-
-take-start-requires : tie.Need-take-start-requires
-take-start-requires c κs = search needs
-
-same-length : tie.Need-same-length
-same-length c = search needs
-
-same-length-2 : tie.Need-same-length-2
-same-length-2 c = search needs
-
-same-length-3 : tie.Need-same-length-3
-same-length-3 c = search needs
 
 returns-2 : tie.Need-returns-2
 returns-2 c =
@@ -31,10 +16,10 @@ pub take-line-spec : {M : Type 1} → statement M
 take-line-spec =
     tie.close
     (tie.spec
-    bad-at-requires
+    (search needs)
     returns
-    take-start-requires
-    same-length
-    same-length-2
-    same-length-3
+    (search needs)
+    (search needs)
+    (search needs)
+    (search needs)
     returns-2)

@@ -4,21 +4,6 @@ use Rattle.console_run.specs.FeedLaws.{last-taken, last-quiet}
 use Rattle.console_run.proofs.feed.Console.last.Statement.{statement}
 use Rattle.console_run.proofs.feed.Console.last.Tie as tie
 
-left-over-requires : tie.Need-left-over-requires
-left-over-requires c κs = search needs
-
-take-requires : tie.Need-take-requires
-take-requires c κs = search needs
-
-same-length : tie.Need-same-length
-same-length c = search needs
-
-same-length-2 : tie.Need-same-length-2
-same-length-2 c = search needs
-
-same-length-3 : tie.Need-same-length-3
-same-length-3 c = search needs
-
 returns : tie.Need-returns
 returns c =
     let at-take = c .before .before .before .before .before .before in
@@ -32,10 +17,10 @@ pub last-spec : {M : Type 1} → statement M
 last-spec =
     tie.close
     (tie.spec
-    left-over-requires
-    take-requires
-    same-length
-    same-length-2
-    same-length-3
+    (search needs)
+    (search needs)
+    (search needs)
+    (search needs)
+    (search needs)
     returns
     returns-2)
