@@ -131,11 +131,11 @@ ended-more p (q ∷ parts) h = refl
 
 -- A newline takes the line out, and any other byte goes on with it.
 module _ (g : Gather) (line : List ℕ) (x : ℕ) (rest : List ℕ) where
-  gathered-end : x ≡ 10 → gathered g line (x ∷ rest) ≡ lineText g line ∷ gathered newLine line rest
+  pub gathered-end : x ≡ 10 → gathered g line (x ∷ rest) ≡ lineText g line ∷ gathered newLine line rest
   unfolding gathered onFed fedAnswer fedLine
   gathered-end e = rw (eq-eqb x 10 e)
 
-  gathered-on : (x ≡ 10 → ⊥) → gathered g line (x ∷ rest) ≡ gathered (grown g) (fedLine g line x) rest
+  pub gathered-on : (x ≡ 10 → ⊥) → gathered g line (x ∷ rest) ≡ gathered (grown g) (fedLine g line x) rest
   unfolding gathered onFed fedAnswer
   gathered-on n = rw (ne-eqb x 10 n)
 

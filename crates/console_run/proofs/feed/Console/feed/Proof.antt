@@ -5,7 +5,7 @@ use Rattle.console_run.proofs.feed.Console.feed.Statement.{statement}
 use Rattle.console_run.proofs.feed.Console.feed.Tie as tie
 
 returns : tie.Need-returns
-returns c = fed-on _ _ _ (c .before .before .before .feed .ensures) (c .before .longer .given .1)
+returns c = fed-on _ _ _ (c .before .before .before .before .feed .ensures) (c .before .before .longer .given .1) (c .goes-on .ensures)
 
 returns-2 : tie.Need-returns-2
 returns-2 c =
@@ -17,6 +17,7 @@ pub feed-spec : {M : Type 1} → statement M
 feed-spec =
     tie.close
     (tie.spec
+    (search needs)
     (search needs)
     (search needs)
     (search needs)

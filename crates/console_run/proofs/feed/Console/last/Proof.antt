@@ -11,7 +11,7 @@ returns c =
     last-taken _ _ _ (at-if1 .before .left-over .ensures) (at-if1 .if1 .taken) (at-take .take .ensures)
 
 returns-2 : tie.Need-returns-2
-returns-2 c = last-quiet _ _ _ (c .before .left-over .ensures) (c .if1 .left)
+returns-2 c = last-quiet _ _ _ (c .before .before .left-over .ensures) (c .before .if1 .left) (c .goes-on .ensures)
 
 pub last-spec : {M : Type 1} → statement M
 last-spec =
@@ -23,4 +23,5 @@ last-spec =
     (search needs)
     (search needs)
     returns
+    (search needs)
     returns-2)
