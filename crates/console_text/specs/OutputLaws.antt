@@ -91,30 +91,30 @@ start-put h k t c₁ w c₂ n c₃ =
 -- ---- a whole line
 
 -- A buffer that is too short is left as it is.
-pub printed-not : (text before : List ℕ) → length before < 64 → Printed text before 0 before
-unfolding printedLen printedBytes lineRoom
+pub printed-not : (text before : List ℕ) → length before < lineRoom → Printed text before 0 before
+unfolding printedLen printedBytes
 printed-not text before h = record {
-  count = rw (lt-ltb (length before) 64 h);
-  buffer = rw (lt-ltb (length before) 64 h);
+  count = rw (lt-ltb (length before) lineRoom h);
+  buffer = rw (lt-ltb (length before) lineRoom h);
   within = omega arith;
   taken = refl;
 }
 
 -- A piece from the start on is the line that is printed.
-pub printed : {text before after : List ℕ} {end : ℕ} → 64 ≤ length before → Piece text 0 before end after
+pub printed : {text before after : List ℕ} {end : ℕ} → lineRoom ≤ length before → Piece text 0 before end after
     → Printed text before end after
-unfolding printedLen printedBytes lineRoom
+unfolding printedLen printedBytes
 printed {text} {before} {after} {end} h p =
     let e : end ≡ length text = omega (arith, p .ends) in
     record {
-      count = rw (le-ltb (length before) 64 h) e;
-      buffer = rw (le-ltb (length before) 64 h) (p .bytes ∙ rw e);
+      count = rw (le-ltb (length before) lineRoom h) e;
+      buffer = rw (le-ltb (length before) lineRoom h) (p .bytes ∙ rw e);
       within = omega (arith, p .fits, p .long);
       taken = sym (length-take-le end after (omega (arith, p .fits, p .long)));
     }
 
 -- A start, the second field and the newline are a line.
-pub line-put : {time first a b e : ℕ} {kind second l₀ l₁ l₂ l₃ : List ℕ} → 64 ≤ length l₀
+pub line-put : {time first a b e : ℕ} {kind second l₀ l₁ l₂ l₃ : List ℕ} → lineRoom ≤ length l₀
     → Started time kind first l₀ a l₁ → Piece second a l₁ b l₂ → Piece newline b l₂ e l₃
     → Printed (line time kind first second) l₀ e l₃
 unfolding line

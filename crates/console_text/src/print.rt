@@ -9,7 +9,7 @@ ghost use Prim.Native.Nat.{_+_, _≤_};
 ghost use lib.ListN.{length};
 ghost use Rattle.console_text.specs.Reading.{tenthsOf};
 ghost use Rattle.console_text.specs.Decimal.{decimal};
-ghost use Rattle.console_text.specs.Output.{outputNames, line, rowLine, sumLine, noLine, badLine, Printed};
+ghost use Rattle.console_text.specs.Output.{outputNames, line, rowLine, sumLine, noLine, badLine, lineRoom, Printed};
 ghost use Rattle.console_text.specs.OutputLaws.{PutSign, PutKn, Started};
 
 pub const LINE_ROOM: usize = 64;
@@ -77,7 +77,7 @@ fn put_numbers(out: &mut [u8], time: u32, kind: &[u8], first: u64, second: u64) 
 
 // A line's time, kind and first field, each with its comma.
 fn put_start(out: &mut [u8], time: u32, kind: &[u8], first: u64) -> usize
-    requires { ⌜ (length (now kind) ≤ 3) × (64 ≤ length (now out)) ⌝ }
+    requires { ⌜ (length (now kind) ≤ 3) × (lineRoom ≤ length (now out)) ⌝ }
     ensures { λ r. ⌜ Started time (now (kind .entry)) first (now (out .entry)) r (now (out .exit)) ⌝ }
 {
     let a = put_decimal(out, 0, time as u64);

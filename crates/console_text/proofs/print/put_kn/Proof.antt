@@ -8,12 +8,6 @@ use Rattle.console_text.specs.OutputLaws.{kn-put}
 use Rattle.console_text.proofs.print.put_kn.Statement.{statement}
 use Rattle.console_text.proofs.print.put_kn.Tie as tie
 
-tenths-of-requires : tie.Need-tenths-of-requires
-tenths-of-requires c κs = search needs
-
-put-sign-requires : tie.Need-put-sign-requires
-put-sign-requires c κs = search needs
-
 put-decimal-requires : tie.Need-put-decimal-requires
 put-decimal-requires c κs =
     let at-put-sign = c .before .before .before in
@@ -30,9 +24,6 @@ put-byte-requires c κs =
     let whole = at-put-decimal .put-decimal .ensures in
     omega (arith, entry .pre)
 
-digit-requires : tie.Need-digit-requires
-digit-requires c κs = search needs
-
 put-byte-requires-2 : tie.Need-put-byte-requires-2
 put-byte-requires-2 c κs =
     let at-put-byte = c .before .before .before .before in
@@ -43,9 +34,6 @@ put-byte-requires-2 c κs =
     let whole = at-put-decimal .put-decimal .ensures in
     let point = at-put-byte .put-byte .ensures in
     omega (arith, entry .pre)
-
-same-length : tie.Need-same-length
-same-length c = search needs
 
 returns : tie.Need-returns
 returns c =
@@ -64,11 +52,11 @@ pub put-kn-spec : {M : Type 1} → statement M
 put-kn-spec =
     tie.close
     (tie.spec
-    tenths-of-requires
-    put-sign-requires
+    (search needs)
+    (search needs)
     put-decimal-requires
     put-byte-requires
-    digit-requires
+    (search needs)
     put-byte-requires-2
-    same-length
+    (search needs)
     returns)

@@ -7,18 +7,6 @@ use Rattle.console_text.proofs.print.put_numbers.Tie as tie
 returns : tie.Need-returns
 returns c = printed-not _ _ (c .if1 .taken)
 
-put-start-requires : tie.Need-put-start-requires
-put-start-requires c κs = search needs
-
-put-decimal-requires : tie.Need-put-decimal-requires
-put-decimal-requires c κs = search needs
-
-put-byte-requires : tie.Need-put-byte-requires
-put-byte-requires c κs = search needs
-
-same-length : tie.Need-same-length
-same-length c = search needs
-
 returns-2 : tie.Need-returns-2
 returns-2 c =
     let at-put-byte = c .before .before in
@@ -33,8 +21,8 @@ put-numbers-spec =
     tie.close
     (tie.spec
     returns
-    put-start-requires
-    put-decimal-requires
-    put-byte-requires
-    same-length
+    (search needs)
+    (search needs)
+    (search needs)
+    (search needs)
     returns-2)

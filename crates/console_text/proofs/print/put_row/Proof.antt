@@ -9,21 +9,6 @@ use Rattle.console_text.proofs.print.put_row.Tie as tie
 returns : tie.Need-returns
 returns c = printed-not _ _ (c .if1 .taken)
 
-slice-aggregate-put-start : tie.Need-slice-aggregate-put-start
-slice-aggregate-put-start c = search needs
-
-put-start-requires : tie.Need-put-start-requires
-put-start-requires c κs = search needs
-
-put-kn-requires : tie.Need-put-kn-requires
-put-kn-requires c κs = search needs
-
-put-byte-requires : tie.Need-put-byte-requires
-put-byte-requires c κs = search needs
-
-same-length : tie.Need-same-length
-same-length c = search needs
-
 returns-2 : tie.Need-returns-2
 unfolding rowLine bytes
 returns-2 c =
@@ -39,9 +24,9 @@ put-row-spec =
     tie.close
     (tie.spec
     returns
-    slice-aggregate-put-start
-    put-start-requires
-    put-kn-requires
-    put-byte-requires
-    same-length
+    (search needs)
+    (search needs)
+    (search needs)
+    (search needs)
+    (search needs)
     returns-2)

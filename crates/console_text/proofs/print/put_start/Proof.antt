@@ -4,27 +4,6 @@ use Rattle.console_text.specs.OutputLaws.{start-put}
 use Rattle.console_text.proofs.print.put_start.Statement.{statement}
 use Rattle.console_text.proofs.print.put_start.Tie as tie
 
-put-decimal-requires : tie.Need-put-decimal-requires
-put-decimal-requires c κs = search needs
-
-put-byte-requires : tie.Need-put-byte-requires
-put-byte-requires c κs = search needs
-
-put-text-requires : tie.Need-put-text-requires
-put-text-requires c κs = search needs
-
-put-byte-requires-2 : tie.Need-put-byte-requires-2
-put-byte-requires-2 c κs = search needs
-
-put-decimal-requires-2 : tie.Need-put-decimal-requires-2
-put-decimal-requires-2 c κs = search needs
-
-put-byte-requires-3 : tie.Need-put-byte-requires-3
-put-byte-requires-3 c κs = search needs
-
-same-length : tie.Need-same-length
-same-length c = search needs
-
 returns : tie.Need-returns
 returns c =
     let at-put-byte3 = c .before .before in
@@ -42,11 +21,11 @@ pub put-start-spec : {M : Type 1} → statement M
 put-start-spec =
     tie.close
     (tie.spec
-    put-decimal-requires
-    put-byte-requires
-    put-text-requires
-    put-byte-requires-2
-    put-decimal-requires-2
-    put-byte-requires-3
-    same-length
+    (search needs)
+    (search needs)
+    (search needs)
+    (search needs)
+    (search needs)
+    (search needs)
+    (search needs)
     returns)
