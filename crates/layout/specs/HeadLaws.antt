@@ -7,7 +7,7 @@ use Prim.Native.Nat.{ℕ, _+_, _*_, _-_, _≤_, _<_}
 use native.Mathlib.Omega.{arith}
 use native.Mathlib.Nat.{mul-le-mul}
 use lib.Dec.{eqb, ltb, leb}
-use lib.ListN.{length, getD}
+use lib.ListN.{length, getD, length-drop}
 use borrow.Author.Tests.{eqb-true, eqb-false, eq-eqb, ne-eqb, ltb-false, le-ltb, leb-true, le-leb, not-false}
 use Rattle.base.specs.Branch.{by-test, is?, and-true, or-false}
 use Rattle.layout.specs.declared.head.Head.{Head}
@@ -18,7 +18,7 @@ use Rattle.layout.specs.Fields.{headMark, headSpare}
 use Rattle.layout.specs.RefusalNumbers.{SHORT-HEAD, HEAD}
 use Rattle.layout.specs.Settings.{inLimits, Within}
 use Rattle.layout.specs.SettingsLaws.{limits-within, within-limits}
-use Rattle.layout.specs.Head.{headOf, fillFits, spareZero, badHead, headAnswer, refusalOf, headRefusal}
+use Rattle.layout.specs.Head.{headOf, headWords, withHead, fillFits, spareZero, badHead, headAnswer, refusalOf, headRefusal}
 
 -- a head within its limits: settings, blocks opened, clock, and the fill rule (0 for N = 0, else 1 to b)
 pub record SoundHead (h : Head) : Type 0 where
@@ -135,3 +135,19 @@ module _ (ws : List ℕ) where
 pub answer-refused : (a : HeadAnswer) {n : ℕ} → n ≡ refusalOf a → n ≢ 0 → Refused n ≡ a
 answer-refused (Read h) e d = absurd (d e)
 answer-refused (Refused m) e d = ap Refused e
+
+-- A sound head that is written is read back.
+pub head-written : (h : Head) (ws : List ℕ) → SoundHead h → headLen ≤ length ws → HeadRead (withHead h ws) h
+unfolding withHead headWords headOf
+head-written h ws g l = record {
+  is = refl;
+  sound = g;
+  long = omega arith;
+  marked = refl;
+  spare = refl;
+}
+
+-- The words beyond the head stay, and the store is as long as before.
+pub length-head : (h : Head) (ws : List ℕ) → headLen ≤ length ws → length (withHead h ws) ≡ length ws
+unfolding withHead headWords
+length-head h ws l = simp length-drop (omega arith)
