@@ -17,11 +17,6 @@ const SLOT: u32 = 8;
 
 const DIRECTORY: u32 = 9;
 
-// Mark and settings, N and the clock, and the six zeros.
-fn head(memory: &Memory) -> bool {
-    same(memory, STORE, BOOK, 7) & same(memory, STORE + 10, BOOK + 10, 6)
-}
-
 // "records placed, 0 for N = 0 and else (N − 1) × b + fill", are the book's; and records placed × (b − q + 1) ≤ b × accepted sets and new
 // readings.
 fn placed(memory: &Memory) -> u32 {
@@ -48,7 +43,7 @@ fn standing_bit(memory: &Memory, start: u32, k: u32) -> bool {
 
 // The slot that starts here has the tag of the book's record at a place, if there is one, and no end if that stands.
 fn record(memory: &Memory, slot: u32, place: u32, stands: bool) -> bool {
-    let tagged = get(memory, slot) == book::tag(memory, place);
+    let tagged = get(memory, slot) == at(memory, book::TAG, place);
     let open = at(memory, slot, 3) == OPEN;
     (tagged | (get(memory, book::PLACED) < place)) & (open | !stands)
 }
@@ -78,10 +73,12 @@ fn slots(memory: &Memory) -> u32 {
     0
 }
 
-// The whole store against book and log. The directory has for each tag the place of its standing record, or 0.
+// The whole store against book and log. Compared of the head: mark and settings, N and the clock, and the six zeros. The directory has for
+// each tag the place of its standing record, or 0.
 pub fn store_agrees(memory: &Memory) -> u32 {
+    let head = same(memory, STORE, BOOK, 7) & same(memory, STORE + 10, BOOK + 10, 6);
     let tags = get(memory, book::TAGS);
     let directory = same(memory, settings::DIRECTORY, book::PLACES, tags);
     let found = first(slots(memory), unless(directory, DIRECTORY));
-    first(unless(head(memory), HEAD), first(placed(memory), found))
+    first(unless(head, HEAD), first(placed(memory), found))
 }

@@ -44,7 +44,7 @@ pub const CLOSED: u32 = BOOK + 768;
 const STANDING: u32 = BOOK + 1408;
 
 // By place, the record's tag.
-const TAG: u32 = BOOK + 2048;
+pub const TAG: u32 = BOOK + 2048;
 
 const LENGTH: u32 = 4096;
 
@@ -82,13 +82,9 @@ pub fn slot_of(memory: &Memory, place: u32) -> u32 {
     rest(less(place, 1), get(memory, BLOCK))
 }
 
-pub fn tag(memory: &Memory, place: u32) -> u32 {
-    at(memory, TAG, place)
-}
-
 // The record at a place stands.
 pub fn stands(memory: &Memory, place: u32) -> bool {
-    at(memory, PLACES, tag(memory, place)) == place
+    at(memory, PLACES, at(memory, TAG, place)) == place
 }
 
 // One more or, with OPEN for `by`, one fewer of the records of a place's block stand.
@@ -99,7 +95,7 @@ fn count(memory: &mut Memory, place: u32, by: u32) {
 
 // A standing record ends; its tag.
 fn end(memory: &mut Memory, place: u32) -> u32 {
-    let tag = tag(memory, place);
+    let tag = at(memory, TAG, place);
     put_at(memory, PLACES, tag, 0);
     count(memory, place, OPEN);
     tag

@@ -14,9 +14,13 @@ fn least(x: usize, y: usize) -> usize
     if x <= y { x } else { y }
 }
 
-pub fn start(store: &mut [u32], length: u32, s: Settings) -> u32 {
+fn start_on(store: &mut [u32], length: u32, s: Settings) -> u32 {
     let end = least(length as usize, store.len());
     register::register_start(&mut store[0..end], s.block, s.useful, s.blocks, s.tags)
+}
+
+pub fn start(memory: &mut Memory, length: u32, s: Settings) -> u32 {
+    start_on(memory, length, s)
 }
 
 // The lent words are cut already.
@@ -33,9 +37,13 @@ fn change_lent(lent: &mut [u32], c: Change) -> u32 {
     register::register_advance(lent, c.second)
 }
 
-pub fn change(store: &mut [u32], c: Change) -> u32 {
+fn change_on(store: &mut [u32], c: Change) -> u32 {
     let end = least(c.length as usize, store.len());
     change_lent(&mut store[0..end], c)
+}
+
+pub fn change(memory: &mut Memory, c: Change) -> u32 {
+    change_on(memory, c)
 }
 
 fn look_back_on(

@@ -12,7 +12,7 @@ const TAG: u32 = 1;
 // What the state has for the tag after the change: its number, or 0 after a clear.
 const LEFT: u32 = 2;
 
-const READING: u32 = 3;
+pub const READING: u32 = 3;
 
 // How many words of the store this history lends; 0 if it is to run near the last second.
 pub const LENGTH: u32 = LOG + 9000;
@@ -28,7 +28,7 @@ pub fn extent(memory: &Memory) -> u32 {
 }
 
 // Where change i is.
-fn change(i: u32) -> u32 {
+pub fn change(i: u32) -> u32 {
     sum(LOG, product(4, i))
 }
 
@@ -60,9 +60,4 @@ pub fn state_at(memory: &Memory, tag: u32, t: u32) -> u32 {
         }
     }
     left
-}
-
-// The reading that a change made.
-pub fn reading(memory: &Memory, i: u32) -> u32 {
-    at(memory, change(i), READING)
 }

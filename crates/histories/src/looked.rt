@@ -84,7 +84,7 @@ fn rows_due(memory: &Memory, tag: u32, t: u32) -> u32 {
         return 0;
     }
     let count = least(get(memory, ROW_COUNT), 320);
-    let reading = log::reading(memory, made);
+    let reading = at(memory, log::change(made), log::READING);
     let once = times(memory, ROWS, 2, count, tag, reading) == 1;
     if once { 1 } else { 65536 }
 }
