@@ -10,7 +10,7 @@ use borrow.Author.Tests.{lt-ltb, le-ltb}
 use Rattle.base.specs.Branch.{lt?}
 use Rattle.io.specs.Digits.{glyph, digits, Fewest}
 use Rattle.console_text.specs.Decimal.{digitByte, digitsBefore, decimal}
-use Rattle.console_text.specs.PieceLaws.{Piece}
+use Rattle.console_text.specs.PieceLaws.{Piece, piece-then}
 
 -- A number up to 9 is a digit, and a larger one ends with one.
 pub digits-few : (k n : ℕ) (after : List ℕ) → n < 10 → digitsBefore (suc k) n after ≡ digitByte n ∷ after
@@ -75,18 +75,18 @@ spelled (suc k) n f h = sym (append-nil (digits 10 (suc k) n)) ∙ digits-same k
 
 -- ---- put into a buffer
 
--- The decimal of n is a piece, of at most 20 bytes, and at most 10 for a word.
-pub record PutNumber (n at : ℕ) (before : List ℕ) (end : ℕ) (after : List ℕ) : Type 0 where
-  pub piece : Piece (decimal n) at before end after
-  pub most : end ≤ at + 20
-  pub word : n < 2 ^ 32 → end ≤ at + 10
+-- The decimal of n and a byte after it are a piece, of at most 21 bytes, and at most 11 for a word.
+pub record PutNumber (n last at : ℕ) (before : List ℕ) (end : ℕ) (after : List ℕ) : Type 0 where
+  pub piece : Piece (decimal n ++ (last ∷ [])) at before end after
+  pub most : end ≤ at + 21
+  pub word : n < 2 ^ 32 → end ≤ at + 11
 
-pub number-put : {n k at end : ℕ} {text before after : List ℕ} → n < 2 ^ 64 → Fewest 10 1 n k → text ≡ digits 10 k n
-    → Piece text at before end after → PutNumber n at before end after
-number-put {n} {k} {at} {end} {text} {before} {after} h f e p =
-    let q : Piece (decimal n) at before end after = rw (e ∙ spelled k n f (digits-most h f)) at p in
+pub number-put : {n k last at mid end : ℕ} {text before between after : List ℕ} → n < 2 ^ 64 → Fewest 10 1 n k → text ≡ digits 10 k n
+    → Piece text at before mid between → Piece (last ∷ []) mid between end after → PutNumber n last at before end after
+number-put {n} {k} {at = at} {mid = mid} {before = before} {between = between} h f e p q =
+    let d : Piece (decimal n) at before mid between = rw (e ∙ spelled k n f (digits-most h f)) at p in
     record {
-      piece = q;
-      most = omega (arith, q .ends, decimal-most n h);
-      word = λ w. omega (arith, q .ends, decimal-word n w);
+      piece = piece-then d q;
+      most = omega (arith, d .ends, q .ends, decimal-most n h);
+      word = λ w. omega (arith, d .ends, q .ends, decimal-word n w);
     }

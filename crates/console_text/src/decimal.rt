@@ -1,4 +1,5 @@
 // Plain decimals: a field read as a number, and a number put into a buffer as digits.
+use crate::piece::put_byte;
 use crate::piece::put_text;
 ghost use mathlib.Core.Path.{_≡_};
 ghost use Prim.Native.Nat.{_+_, _≤_, _<_};
@@ -107,12 +108,13 @@ pub(crate) fn digit(d: u64) -> u8
     48 + d as u8
 }
 
-// A number's decimal at `at`; answers the place after it.
-pub(crate) fn put_decimal(out: &mut [u8], at: usize, n: u64) -> usize
-    requires { ⌜ at + 20 ≤ length (now out) ⌝ }
-    ensures { λ r. ⌜ PutNumber n at (now (out .entry)) r (now (out .exit)) ⌝ }
+// A number's decimal at `at` and a byte after it; answers the place after both.
+pub(crate) fn put_number(out: &mut [u8], at: usize, n: u64, last: u8) -> usize
+    requires { ⌜ at + 21 ≤ length (now out) ⌝ }
+    ensures { λ r. ⌜ PutNumber n last at (now (out .entry)) r (now (out .exit)) ⌝ }
 {
     let mut text = [0u8; 20];
     let count = io::decimal(n, &mut text);
-    put_text(out, at, &text[..count])
+    let end = put_text(out, at, &text[..count]);
+    put_byte(out, end, last)
 }

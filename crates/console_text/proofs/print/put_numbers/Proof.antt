@@ -9,19 +9,15 @@ returns c = printed-not _ _ (c .if1 .taken)
 
 returns-2 : tie.Need-returns-2
 returns-2 c =
-    let at-put-byte = c .before .before in
-    let at-put-decimal = at-put-byte .before .before .before .before in
-    let at-put-start = at-put-decimal .before .before .before .before in
-    let at-if1 = at-put-start .before .before in
-    line-put (at-if1 .if1 .left) (at-put-start .put-start .ensures) (at-put-decimal .put-decimal .ensures .piece)
-    (at-put-byte .put-byte .ensures)
+    let at-put-number = c .before .before in
+    let at-put-start = at-put-number .before .before .before .before in
+    line-put _ (at-put-start .before .before .if1 .left) (at-put-start .put-start .ensures) (at-put-number .put-number .ensures .piece)
 
 pub put-numbers-spec : {M : Type 1} → statement M
 put-numbers-spec =
     tie.close
     (tie.spec
     returns
-    (search needs)
     (search needs)
     (search needs)
     (search needs)

@@ -1,4 +1,4 @@
--- `print::put_start` meets its contract: six pieces, one after another.
+-- `print::put_start` meets its contract: four pieces, one after another.
 use borrow.Author.Needs.{needs}
 use Rattle.console_text.specs.OutputLaws.{start-put}
 use Rattle.console_text.proofs.print.put_start.Statement.{statement}
@@ -6,23 +6,17 @@ use Rattle.console_text.proofs.print.put_start.Tie as tie
 
 returns : tie.Need-returns
 returns c =
-    let at-put-byte3 = c .before .before in
-    let at-put-decimal2 = at-put-byte3 .before .before .before .before in
-    let at-put-byte2 = at-put-decimal2 .before .before .before .before in
-    let at-put-text = at-put-byte2 .before .before .before .before in
-    let at-put-byte = at-put-text .before .before .before .before in
-    let at-put-decimal = at-put-byte .before .before .before .before in
-    let entry = at-put-decimal .before .before .before .before in
-    start-put (search needs) (entry .pre .0) (at-put-decimal .put-decimal .ensures) (at-put-byte .put-byte .ensures)
-    (at-put-text .put-text .ensures) (at-put-byte2 .put-byte2 .ensures) (at-put-decimal2 .put-decimal2 .ensures)
-    (at-put-byte3 .put-byte3 .ensures)
+    let at-put-number2 = c .before .before in
+    let at-put-byte = at-put-number2 .before .before .before .before in
+    let at-put-text = at-put-byte .before .before .before .before in
+    let at-put-number = at-put-text .before .before .before .before in
+    start-put (search needs) (at-put-number .before .before .before .before .pre .0) (at-put-number .put-number .ensures) (at-put-text .put-text .ensures)
+    (at-put-byte .put-byte .ensures) (at-put-number2 .put-number2 .ensures)
 
 pub put-start-spec : {M : Type 1} → statement M
 put-start-spec =
     tie.close
     (tie.spec
-    (search needs)
-    (search needs)
     (search needs)
     (search needs)
     (search needs)
