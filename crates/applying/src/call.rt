@@ -5,7 +5,7 @@ use layout::settings::Settings;
 use timeslice::Slice;
 use timeslice::SliceAnswer;
 ghost use mathlib.Core.Path.{_≡_};
-ghost use Rattle.applying.specs.Applied.{changeAnswer, lookedAnswer, Applied};
+ghost use Rattle.applying.specs.Applied.{changeAnswer, sliceAnswer, Applied};
 
 // The six calls. A look-back's two buffers are lent beside it.
 pub enum Call {
@@ -40,7 +40,7 @@ fn changed(c: Change) -> Answer
 }
 
 fn shown(l: SliceAnswer) -> Answer
-    ensures { λ r. ⌜ r ≡ lookedAnswer l ⌝ }
+    ensures { λ r. ⌜ r ≡ sliceAnswer l ⌝ }
 {
     match l {
         SliceAnswer::Answered(s) => Answer::Shown(s),

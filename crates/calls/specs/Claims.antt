@@ -1,4 +1,5 @@
 -- THE CLAIMS (demands 1 to 3): what is said of the definitions, before anything of it is proved. Each sentence is a named field.
+-- (UNSOUND is refusal 12, OUT-OF-BLOCKS 13; sumTo n w is w 1 + .. + w n.)
 use mathlib.Core.Path.{_≡_}
 use mathlib.Core.Logic.{_≢_, _↔_}
 use mathlib.Core.Bool.{Bool, true, false, cond, not, _&&_, _||_}

@@ -162,8 +162,11 @@ storeLen = 16000
 abbrev pub listLen : ℕ
 listLen = 4096
 
+abbrev pub tagsMost : ℕ
+tagsMost = 4096
+
 abbrev pub rowsLen : ℕ
-rowsLen = rowLen * listLen
+rowsLen = rowLen * tagsMost
 
 unfoldable pub blank : Lent
 blank = lent (replicate storeLen 0) (replicate rowsLen 0) (replicate listLen 0)

@@ -21,7 +21,7 @@ split separator (x ∷ rest) = cond (eqb x separator) ([] ∷ split separator re
 abbrev pub fieldsOf : List ℕ → List (List ℕ)
 fieldsOf line = split (code ",") line
 
--- The bytes before a line's first comma, and those after it.
+-- The bytes before a line's first comma, and those after it. (What two functions of the code answer; no definition uses these.)
 unfoldable pub firstField : List ℕ → List ℕ
 firstField line = take (indexOf (code ",") line) line
 

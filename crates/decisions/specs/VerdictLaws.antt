@@ -15,7 +15,7 @@ use Rattle.layout.specs.declared.head.HeadAnswer.the-variants.{Read}
 use Rattle.layout.specs.declared.head.HeadAnswer.the-variants as answer
 use Rattle.layout.specs.Sizes.{headLen}
 use Rattle.layout.specs.RefusalNumbers.{SHORT-HEAD, HEAD}
-use Rattle.layout.specs.Head.{headOf, badHead, headAnswer, refusalOf, headRefusal}
+use Rattle.layout.specs.Head.{headOf, badHead, headAnswer, headNumber, headRefusal}
 use Rattle.layout.specs.HeadLaws.{head-passes}
 use Rattle.calls.specs.Refusals.{Test, refusal, timeTests}
 use Rattle.decisions.specs.declared.Verdict.{Verdict}
@@ -58,11 +58,11 @@ module _ (ws : List ℕ) (s : ℕ) where
   pub head-refused : {n : ℕ} (l : List Test) → n ≡ headRefusal ws → n ≢ 0 → First (timeTests ws s l) n
   unfolding headAnswer
   head-refused {n} l = by-test (ltb (length ws) headLen)
-      (λ t. n ≡ refusalOf (cond t (answer.Refused SHORT-HEAD) (cond (badHead ws) (answer.Refused HEAD) (Read (headOf ws)))) → n ≢ 0
+      (λ t. n ≡ headNumber (cond t (answer.Refused SHORT-HEAD) (cond (badHead ws) (answer.Refused HEAD) (Read (headOf ws)))) → n ≢ 0
       → First (record { number = SHORT-HEAD; applies = t } ∷ record { number = HEAD; applies = badHead ws } ∷ timeOwn (headOf ws) ws s l) n)
       (λ a e d. record { is = sym e })
       (λ a. by-test (badHead ws)
-      (λ t. n ≡ refusalOf (cond t (answer.Refused HEAD) (Read (headOf ws))) → n ≢ 0
+      (λ t. n ≡ headNumber (cond t (answer.Refused HEAD) (Read (headOf ws))) → n ≢ 0
       → First (record { number = SHORT-HEAD; applies = false } ∷ record { number = HEAD; applies = t } ∷ timeOwn (headOf ws) ws s l) n)
       (λ b e d. record { is = sym e })
       (λ b e d. absurd (d e)))

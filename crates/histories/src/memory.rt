@@ -97,7 +97,7 @@ pub fn copy(memory: &mut Memory, target: u32, source: u32, length: u32) {
     }
 }
 
-// Two parts have the same first words. Each turn adds what differs, so that the loop runs on many words at a time.
+// Two parts have the same first words. Each turn gathers by `|` what differs, so that the loop runs on many words at a time.
 pub fn same(memory: &Memory, one: u32, other: u32, length: u32) -> bool {
     let a = least(one, 65536) as usize;
     let b = least(other, 65536) as usize;

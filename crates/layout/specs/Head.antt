@@ -71,12 +71,12 @@ unfoldable pub headAnswer : List ℕ → HeadAnswer
 headAnswer ws = cond (ltb (length ws) headLen) (Refused SHORT-HEAD) (cond (badHead ws) (Refused HEAD) (Read (headOf ws)))
 
 -- the number of a refusal, 0 for a head
-abbrev pub refusalOf : HeadAnswer → ℕ
-refusalOf (Read h) = 0
-refusalOf (Refused n) = n
+abbrev pub headNumber : HeadAnswer → ℕ
+headNumber (Read h) = 0
+headNumber (Refused n) = n
 
 abbrev pub headRefusal : List ℕ → ℕ
-headRefusal ws = refusalOf (headAnswer ws)
+headRefusal ws = headNumber (headAnswer ws)
 
 -- records placed: 0 for N = 0, else (N − 1) × b + fill
 unfoldable pub placed : Head → ℕ

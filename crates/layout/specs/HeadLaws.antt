@@ -18,7 +18,7 @@ use Rattle.layout.specs.Fields.{headMark, headSpare}
 use Rattle.layout.specs.RefusalNumbers.{SHORT-HEAD, HEAD}
 use Rattle.layout.specs.Settings.{inLimits, Within}
 use Rattle.layout.specs.SettingsLaws.{limits-within, within-limits}
-use Rattle.layout.specs.Head.{headOf, headWords, withHead, fillFits, spareZero, badHead, headAnswer, refusalOf, headRefusal}
+use Rattle.layout.specs.Head.{headOf, headWords, withHead, fillFits, spareZero, badHead, headAnswer, headNumber, headRefusal}
 
 -- a head within its limits: settings, blocks opened, clock, and the fill rule (0 for N = 0, else 1 to b)
 pub record SoundHead (h : Head) : Type 0 where
@@ -104,10 +104,10 @@ module _ (ws : List ℕ) where
   pub head-passes : headRefusal ws ≡ 0 → (headLen ≤ length ws) × (badHead ws ≡ false)
   unfolding headAnswer
   head-passes = by-test (ltb (length ws) headLen)
-      (λ t. refusalOf (cond t (Refused SHORT-HEAD) (cond (badHead ws) (Refused HEAD) (Read (headOf ws)))) ≡ 0 → (headLen ≤ length ws) × (badHead ws ≡ false))
+      (λ t. headNumber (cond t (Refused SHORT-HEAD) (cond (badHead ws) (Refused HEAD) (Read (headOf ws)))) ≡ 0 → (headLen ≤ length ws) × (badHead ws ≡ false))
       (λ a e. absurd (omega arith))
       (λ a. by-test (badHead ws)
-      (λ t. refusalOf (cond t (Refused HEAD) (Read (headOf ws))) ≡ 0 → (headLen ≤ length ws) × (t ≡ false))
+      (λ t. headNumber (cond t (Refused HEAD) (Read (headOf ws))) ≡ 0 → (headLen ≤ length ws) × (t ≡ false))
       (λ b e. absurd (omega arith))
       (λ b e. (ltb-false _ _ a, refl)))
 
@@ -119,7 +119,7 @@ module _ (ws : List ℕ) where
   -- What `read_head` answered as a head is the head of a sound store. (A word fits 32 bits, so that a clock other than OPEN is below it.)
   pub head-read : {h : Head} → headAnswer ws ≡ Read h → h .cursor .clock ≤ OPEN → HeadRead ws h
   head-read {h} a k =
-      let p = head-passes (ap refusalOf a) in
+      let p = head-passes (ap headNumber a) in
       let e : h ≡ headOf ws = cc (passes-read (p .0) (p .1)) in
       rw e (passes (p .0) (rw e at k) (p .1))
 
@@ -132,7 +132,7 @@ module _ (ws : List ℕ) where
       rw (r .is) (passes-read (r .long) b)
 
 -- An answer by its refusal number: a number is that refusal.
-pub answer-refused : (a : HeadAnswer) {n : ℕ} → n ≡ refusalOf a → n ≢ 0 → Refused n ≡ a
+pub answer-refused : (a : HeadAnswer) {n : ℕ} → n ≡ headNumber a → n ≢ 0 → Refused n ≡ a
 answer-refused (Read h) e d = absurd (d e)
 answer-refused (Refused m) e d = ap Refused e
 

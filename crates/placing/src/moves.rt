@@ -36,7 +36,7 @@ fn too_few(s: Settings, bits: Standing) -> bool
     bits.count() < s.useful
 }
 
-// The old acceptor x is judged: it closes, and its copies go into the new block. They are fewer than q, so there is room for them.
+// The old acceptor x is judged: with fewer than q standing it closes, and its copies go into the new block, which has room for them.
 fn judge_full(store: &mut [u32], h: Head, x: u32, second: u32) -> Head
     requires { ⌜ Able (h .settings) (judgeFull (h .settings) (h .cursor) x second) (now store) ⌝ }
     ensures { λ r. ⌜ Moved h (judgeFull (h .settings) (h .cursor) x second) (now (store .entry)) r (now (store .exit)) ⌝ }
@@ -110,7 +110,7 @@ fn replace_all(store: &mut [u32], h: Head, x: u32, second: u32, bits: Standing) 
     head
 }
 
-// Block x, which is not the acceptor, is judged: it closes, and its standing records are placed again.
+// Block x, which is not the acceptor, is judged: with fewer than q standing it closes, and its standing records are placed again.
 pub(crate) fn judge(store: &mut [u32], h: Head, x: u32, second: u32) -> Head
     requires { ⌜ Able (h .settings) (judge (h .settings) (h .cursor) x second) (now store) ⌝ }
     ensures { λ r. ⌜ Moved h (judge (h .settings) (h .cursor) x second) (now (store .entry)) r (now (store .exit)) ⌝ }

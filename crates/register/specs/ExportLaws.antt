@@ -22,7 +22,7 @@ use Rattle.changes.specs.declared.Change.{Change}
 use Rattle.changes.specs.Replied.{Replied, answerOf}
 use Rattle.timeslice.specs.declared.Slice.{Slice}
 use Rattle.timeslice.specs.declared.SliceAnswer.{SliceAnswer}
-use Rattle.timeslice.specs.declared.SliceAnswer.the-variants as looked
+use Rattle.timeslice.specs.declared.SliceAnswer.the-variants as slice
 use Rattle.timeslice.specs.Answer.{Says, view, number, LookedBack}
 use Rattle.register.specs.Exports.{numberOf, sixWords, sixAfter, Exported, ExportedLookBack, wordsFor}
 
@@ -60,16 +60,16 @@ module _ {ws rows list rows′ list′ : List ℕ} {t : ℕ} {l : SliceAnswer} (
   told-back : {n : ℕ} {six′ : List ℕ} → told-so (lookBack ws t rows list .answer) n six′ → ExportedLookBack ws t rows list six n rows′ list′ six′
   told-back p = record { number = p .0; buffers = ap₂ (λ (x y : List ℕ). x ∷ y ∷ []) (b .row-words) (b .list-words); six-words = p .1 }
 
-  refused-so : {a : Answer} {n : ℕ} → Says a (looked.Refused n) → told-so a n six
+  refused-so : {a : Answer} {n : ℕ} → Says a (slice.Refused n) → told-so a n six
   refused-so number = (refl, refl)
 
-  answered-so : {a : Answer} {s : Slice} → Says a (looked.Answered s) → told-so a 0 (sets six 0 (sixWords s))
+  answered-so : {a : Answer} {s : Slice} → Says a (slice.Answered s) → told-so a 0 (sets six 0 (sixWords s))
   answered-so (view e) = (refl, ap (λ (x : Slice). sets six 0 (sixWords x)) e)
 
-  pub refused-back : {n : ℕ} → l ≡ looked.Refused n → ExportedLookBack ws t rows list six n rows′ list′ six
+  pub refused-back : {n : ℕ} → l ≡ slice.Refused n → ExportedLookBack ws t rows list six n rows′ list′ six
   refused-back e = told-back (refused-so (rw e at (b .answer)))
 
-  pub answered-back : {s : Slice} {six′ : List ℕ} → l ≡ looked.Answered s → six′ ≡ sets six 0 (sixWords s) → ExportedLookBack ws t rows list six 0 rows′ list′ six′
+  pub answered-back : {s : Slice} {six′ : List ℕ} → l ≡ slice.Answered s → six′ ≡ sets six 0 (sixWords s) → ExportedLookBack ws t rows list six 0 rows′ list′ six′
   answered-back e f = let p = answered-so (rw e at (b .answer)) in told-back (p .0, f ∙ p .1)
 
 -- ---- how many words a store takes, for settings as they are asked for

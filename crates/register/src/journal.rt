@@ -45,7 +45,8 @@ fn counts(number: u32) -> Played
     Played::Counts(0)
 }
 
-// One entry, by the exported calls: a change that had another caller beside its export would no longer be compiled into it.
+// One entry, by the exported calls: a change that had another caller beside its export would no longer be compiled into it. (`apply` is not
+// in the archive.)
 fn play(store: &mut [u32], kind: u32, a: u32, b: u32, c: u32, d: u32) -> Played
     ensures { λ r. ⌜ Plays (now (store .entry)) (entryOf kind a b c d) r (now (store .exit)) ⌝ }
 {

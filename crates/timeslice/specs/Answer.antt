@@ -15,8 +15,8 @@ use Rattle.calls.specs.LookBack.{lookBack, lookAt, seen, viewOf, rowWords, writ
 use Rattle.timeslice.specs.declared.Slice.{Slice}
 use Rattle.timeslice.specs.declared.SliceAnswer.{SliceAnswer}
 use Rattle.timeslice.specs.declared.SliceAnswer.the-variants.{Answered, Refused}
-use Rattle.timeslice.specs.declared.Sliced.{Sliced}
-use Rattle.timeslice.specs.declared.Sliced.the-variants.{Whole, Unsound}
+use Rattle.timeslice.specs.declared.WalkAnswer.{WalkAnswer}
+use Rattle.timeslice.specs.declared.WalkAnswer.the-variants.{Whole, Unsound}
 
 -- a view's three numbers, and its page on each of the three levels
 abbrev pub sliceOf : View → Slice
@@ -40,10 +40,10 @@ pub record LookedBack (ws : List ℕ) (t : ℕ) (rows list : List ℕ) (r : Slic
 
 -- ---- the parts
 -- what the walk over the words says: its rows and list at the start of the buffers, or that it is unsound, the buffers being anything
-pub data Slices (w : Looked) (rows list : List ℕ) : Sliced → List ℕ → List ℕ → Type 0 where
+pub data WalkSays (w : Looked) (rows list : List ℕ) : WalkAnswer → List ℕ → List ℕ → Type 0 where
   whole : {r : List Row} {l : List ℕ} {ps : List Pass} {s : Slice} {rows′ list′ : List ℕ} → w ≡ looked r l ps → s ≡ sliceOf (viewOf r l ps)
-      → rows′ ≡ written (rowWords r) rows → list′ ≡ written l list → Slices w rows list (Whole s) rows′ list′
-  broken : {rows′ list′ : List ℕ} → w ≡ unsoundly → Slices w rows list Unsound rows′ list′
+      → rows′ ≡ written (rowWords r) rows → list′ ≡ written l list → WalkSays w rows list (Whole s) rows′ list′
+  broken : {rows′ list′ : List ℕ} → w ≡ unsoundly → WalkSays w rows list Unsound rows′ list′
 
 -- a look-back to which no refusal but 12 applies
 pub record Answers (ws : List ℕ) (t : ℕ) (rows list : List ℕ) (r : SliceAnswer) (rows′ list′ : List ℕ) : Type 0 where
@@ -61,14 +61,14 @@ ownTests h words t rows list unsound =
     ∷ record { number = UNSOUND; applies = unsound } ∷ []
 
 -- none of them but the walk's applies, so that the store and both buffers are long enough
-pub record Free (h : Head) (words t rows list : ℕ) : Type 0 where
+pub record NoneApplies (h : Head) (words t rows list : ℕ) : Type 0 where
   pub long : layoutLen (h .settings) ≤ words
   pub long-rows : rowLen * h .settings .tags ≤ rows
   pub long-list : h .settings .blocks ≤ list
   pub left : (unsound : Bool) → refusal (ownTests h words t rows list unsound) ≡ cond unsound UNSOUND 0
 
--- what they come to before the walk: a refusal other than the walk's, whatever that says; or 0
-pub data Ruled (h : Head) (words t rows list : ℕ) : ℕ → Type 0 where
+-- what they come to before the walk: n is the first of 4, 5, 7 and 11 that applies, whatever the walk says; or 0
+pub data OwnRefusal (h : Head) (words t rows list : ℕ) : ℕ → Type 0 where
   turned : {n : ℕ} → ((unsound : Bool) → refusal (ownTests h words t rows list unsound) ≡ n) → (eqb n 0 || eqb n UNSOUND) ≡ false
-      → Ruled h words t rows list n
-  free : Free h words t rows list → Ruled h words t rows list 0
+      → OwnRefusal h words t rows list n
+  free : NoneApplies h words t rows list → OwnRefusal h words t rows list 0

@@ -25,8 +25,8 @@ use Rattle.timeslice.specs.declared.Counts.{Counts}
 use Rattle.timeslice.specs.declared.Slice.{Slice}
 use Rattle.timeslice.specs.declared.SliceAnswer.{SliceAnswer}
 use Rattle.timeslice.specs.declared.SliceAnswer.the-variants.{Answered, Refused}
-use Rattle.timeslice.specs.declared.Sliced.{Sliced}
-use Rattle.timeslice.specs.declared.Sliced.the-variants.{Whole, Unsound}
+use Rattle.timeslice.specs.declared.WalkAnswer.{WalkAnswer}
+use Rattle.timeslice.specs.declared.WalkAnswer.the-variants.{Whole, Unsound}
 use Rattle.timeslice.specs.declared.index.PathStart.{PathStart}
 use Rattle.timeslice.specs.declared.index.Searched.{Searched}
 use Rattle.timeslice.specs.declared.index.Searched.the-variants.{At, Unsound as Nowhere}
@@ -39,7 +39,7 @@ use Rattle.timeslice.specs.PathLaws.{path-short}
 use Rattle.timeslice.specs.VisitLaws.{short-found}
 use Rattle.timeslice.specs.Searching.{pathStart, searchedOf}
 use Rattle.timeslice.specs.SearchLaws.{search-few}
-use Rattle.timeslice.specs.Answer.{sliceOf, view, number, LookedBack, Slices, whole, broken, Answers, ownTests, Free, Ruled, turned, free}
+use Rattle.timeslice.specs.Answer.{sliceOf, view, number, LookedBack, WalkSays, whole, broken, Answers, ownTests, NoneApplies, OwnRefusal, turned, free}
 
 -- ---- the whole call, by its first refusal
 -- none but the walk's
@@ -86,25 +86,25 @@ own-decide {ws} {h} read t rows list =
     rw (le-ltb _ _ (read .long), b, ← (read .is))
 
 -- One of them applies,
-pub own-refused : {ws : List ℕ} {h : Head} {t : ℕ} {rows list : List ℕ} {n : ℕ} → HeadRead ws h → Ruled h (length ws) t (length rows) (length list) n
+pub own-refused : {ws : List ℕ} {h : Head} {t : ℕ} {rows list : List ℕ} {n : ℕ} → HeadRead ws h → OwnRefusal h (length ws) t (length rows) (length list) n
     → (n ≡ 0 → ⊥) → LookedBack ws t rows list (Refused n) rows list
 own-refused {ws} {h} {t} {rows} {list} {n} read (turned q e) z = refused-is ws t rows list n (own-decide read t rows list ∙ q (isUnsound (lookAt ws t))) e
 own-refused read (free p) z = absurd (z refl)
 
 -- or none does,
-pub own-free : {h : Head} {words t rows list n : ℕ} → Ruled h words t rows list n → n ≡ 0 → Free h words t rows list
+pub own-free : {h : Head} {words t rows list n : ℕ} → OwnRefusal h words t rows list n → n ≡ 0 → NoneApplies h words t rows list
 own-free (turned q e) z = absurd (let y : true ≡ false = rw z at e in let x : _≡_ {A = ℕ} 0 1 = cc in omega arith)
 own-free (free p) z = p
 
 -- and the walk may run: its answer is the call's.
-pub read-ready : {ws : List ℕ} {h : Head} {t rows list : ℕ} → HeadRead ws h → Free h (length ws) t rows list → Readable ws h
+pub read-ready : {ws : List ℕ} {h : Head} {t rows list : ℕ} → HeadRead ws h → NoneApplies h (length ws) t rows list → Readable ws h
 read-ready read p = record { is = read .is; sound = read .sound; held = fits-held (record { long = p .long }) (read .sound .within) }
 
-pub buffers-ready : {h : Head} {words t : ℕ} {rows list : List ℕ} → Free h words t (length rows) (length list) → Buffers (h .settings) rows list
+pub buffers-ready : {h : Head} {words t : ℕ} {rows list : List ℕ} → NoneApplies h words t (length rows) (length list) → Buffers (h .settings) rows list
 buffers-ready p = record { long-rows = p .long-rows; long-list = p .long-list }
 
 pub own-passed : {ws : List ℕ} {h : Head} {t : ℕ} {rows list : List ℕ} {r : SliceAnswer} {rows′ list′ : List ℕ} → HeadRead ws h
-    → Free h (length ws) t (length rows) (length list) → Answers ws t rows list r rows′ list′ → LookedBack ws t rows list r rows′ list′
+    → NoneApplies h (length ws) t (length rows) (length list) → Answers ws t rows list r rows′ list′ → LookedBack ws t rows list r rows′ list′
 own-passed {ws} {t = t} {rows} {list} read p a = seen-is ws t rows list (own-decide read t rows list ∙ p .left (isUnsound (lookAt ws t))) a
 
 -- ---- search and path
@@ -158,7 +158,7 @@ module _ {ws : List ℕ} {h : Head} (ready : Readable ws h) (t : ℕ) where
   look-is = rw (ready .is)
 
   module _ {x : Searched} (searched : x ≡ searchedOf (search t (h .cursor .opened) (reader ws))) (rows list : List ℕ) where
-    pub slices-nowhere : x ≡ Nowhere → Slices (lookAt ws t) rows list Unsound rows list
+    pub slices-nowhere : x ≡ Nowhere → WalkSays (lookAt ws t) rows list Unsound rows list
     unfolding look
     slices-nowhere n =
         let p : search t (h .cursor .opened) (reader ws) ≡ unsound = searched-nowhere _ (sym searched ∙ n) in
@@ -176,14 +176,14 @@ module _ {ws : List ℕ} {h : Head} (ready : Readable ws h) (t : ℕ) where
           }
 
       module _ {a : Walked} {rows′ list′ : List ℕ} (told : PathTold (h .settings) t (reader ws) (s .block) rows list (none-yet (s .read)) a rows′ list′) where
-        pub slices-unsound : a ≡ Stopped → Slices (lookAt ws t) rows list Unsound rows′ list′
+        pub slices-unsound : a ≡ Stopped → WalkSays (lookAt ws t) rows list Unsound rows′ list′
         unfolding look
         slices-unsound e =
             let (ps, p, q) = searched-at (search t (h .cursor .opened) (reader ws)) (sym searched ∙ n) in
             broken (look-is ∙ rw p (told-unsound ps refl (rw e at (told .told (suc (s .block)) (omega arith)))))
 
         pub slices-whole : Buffers (h .settings) rows list → {m : Counts} → a ≡ Done m
-            → Slices (lookAt ws t) rows list (Whole (record { counts = m; page0 = s .page0; page1 = s .page1; page2 = s .page2 })) rows′ list′
+            → WalkSays (lookAt ws t) rows list (Whole (record { counts = m; page0 = s .page0; page1 = s .page1; page2 = s .page2 })) rows′ list′
         slices-whole b {m} e =
             let (ps, p, q) = searched-at (search t (h .cursor .opened) (reader ws)) (sym searched ∙ n) in
             let (r, l, w, f) = told-found (rw e at (told .told (suc (s .block)) (omega arith))) in
@@ -199,17 +199,17 @@ module _ {ws : List ℕ} {h : Head} (ready : Readable ws h) (t : ℕ) where
             (f .list-words ∙ sets-written l list all-blocks)
 
 -- ---- what was seen is answered
-slices-as : {w : Looked} {rows list rows′ list′ : List ℕ} {x y : Sliced} → Slices w rows list x rows′ list′ → x ≡ y → Slices w rows list y rows′ list′
+slices-as : {w : Looked} {rows list rows′ list′ : List ℕ} {x y : WalkAnswer} → WalkSays w rows list x rows′ list′ → x ≡ y → WalkSays w rows list y rows′ list′
 slices-as a e = rw (← e) a
 
-module _ {ws : List ℕ} {t : ℕ} {rows list : List ℕ} {x : Sliced} {rows₁ list₁ : List ℕ} (sliced : Slices (lookAt ws t) rows list x rows₁ list₁) where
-  answers-whole : {s : Slice} → Slices (lookAt ws t) rows list (Whole s) rows₁ list₁ → Answers ws t rows list (Answered s) rows₁ list₁
+module _ {ws : List ℕ} {t : ℕ} {rows list : List ℕ} {x : WalkAnswer} {rows₁ list₁ : List ℕ} (sliced : WalkSays (lookAt ws t) rows list x rows₁ list₁) where
+  answers-whole : {s : Slice} → WalkSays (lookAt ws t) rows list (Whole s) rows₁ list₁ → Answers ws t rows list (Answered s) rows₁ list₁
   answers-whole (whole w e p q) = record { answer = rw w (view e); row-words = rw w p; list-words = rw w q }
 
   pub answer-whole : {s : Slice} → x ≡ Whole s → Answers ws t rows list (Answered s) rows₁ list₁
   answer-whole e = answers-whole (slices-as sliced e)
 
-  answers-broken : Slices (lookAt ws t) rows list Unsound rows₁ list₁ → Answers ws t rows list (Refused UNSOUND) (zeros rows) (zeros list)
+  answers-broken : WalkSays (lookAt ws t) rows list Unsound rows₁ list₁ → Answers ws t rows list (Refused UNSOUND) (zeros rows) (zeros list)
   answers-broken (broken w) = record { answer = rw w number; row-words = rw w; list-words = rw w }
 
   -- both buffers are filled with zeros, as long as they were

@@ -8,7 +8,7 @@ use Rattle.layout.specs.declared.head.Head.{Head}
 use Rattle.layout.specs.Sizes.{OPEN, rowLen, layoutLen}
 use Rattle.layout.specs.RefusalNumbers.{SHORT-STORE, TIME-OPEN, LATE, SHORT-BUFFER}
 use Rattle.layout.specs.SettingsLaws.{StoreLong}
-use Rattle.timeslice.specs.Answer.{Ruled, turned, free}
+use Rattle.timeslice.specs.Answer.{OwnRefusal, turned, free}
 
 -- the store is long enough, and the second is known and not after the clock
 pub record InTime (h : Head) (words t : ℕ) : Type 0 where
@@ -24,26 +24,26 @@ in-time s a b fit c = record { long = fits s a; known = omega arith; past = c }
 
 module _ {h : Head} {words t rows list : ℕ} where
   module _ {n : ℕ} (s : StoreLong (h .settings) n) where
-    pub own-short : words < n → Ruled h words t rows list SHORT-STORE
+    pub own-short : words < n → OwnRefusal h words t rows list SHORT-STORE
     own-short a = turned {n = SHORT-STORE} (λ u. rw (lt-ltb words (layoutLen (h .settings)) (rw (s .is) at a))) refl
 
     module _ (a : n ≤ words) where
-      pub own-open : t ≡ OPEN → Ruled h words t rows list TIME-OPEN
+      pub own-open : t ≡ OPEN → OwnRefusal h words t rows list TIME-OPEN
       own-open b = turned {n = TIME-OPEN} (λ u. rw (le-ltb words _ (fits s a), le-leb OPEN t (omega arith))) refl
 
-      pub own-late : (t ≡ OPEN → ⊥) → t ≤ OPEN → h .cursor .clock < t → Ruled h words t rows list LATE
+      pub own-late : (t ≡ OPEN → ⊥) → t ≤ OPEN → h .cursor .clock < t → OwnRefusal h words t rows list LATE
       own-late b fit c = turned {n = LATE} (λ u. rw (le-ltb words _ (fits s a), lt-leb OPEN t (omega arith), lt-ltb _ t c)) refl
 
   module _ (p : InTime h words t) where
-    pub own-rows : rows < rowLen * h .settings .tags → Ruled h words t rows list SHORT-BUFFER
+    pub own-rows : rows < rowLen * h .settings .tags → OwnRefusal h words t rows list SHORT-BUFFER
     own-rows d = turned {n = SHORT-BUFFER} (λ u. rw (le-ltb words _ (p .long), lt-leb OPEN t (p .known), le-ltb _ t (p .past), lt-ltb rows _ d)) refl
 
     module _ (d : rowLen * h .settings .tags ≤ rows) where
-      pub own-list : list < h .settings .blocks → Ruled h words t rows list SHORT-BUFFER
+      pub own-list : list < h .settings .blocks → OwnRefusal h words t rows list SHORT-BUFFER
       own-list e = turned {n = SHORT-BUFFER}
           (λ u. rw (le-ltb words _ (p .long), lt-leb OPEN t (p .known), le-ltb _ t (p .past), le-ltb rows _ d, lt-ltb list _ e)) refl
 
-      pub own-none : h .settings .blocks ≤ list → Ruled h words t rows list 0
+      pub own-none : h .settings .blocks ≤ list → OwnRefusal h words t rows list 0
       own-none e = free (record {
         long = p .long;
         long-rows = d;

@@ -14,7 +14,7 @@ use walk::Walked;
 ghost use Rattle.layout.specs.Settings.{Within};
 ghost use Rattle.calls.specs.LookBack.{lookAt};
 ghost use Rattle.timeslice.specs.Told.{Readable, Buffers};
-ghost use Rattle.timeslice.specs.Answer.{LookedBack, Slices, Answers, Ruled};
+ghost use Rattle.timeslice.specs.Answer.{LookedBack, WalkSays, Answers, OwnRefusal};
 
 // Rows given, pages read and blocks listed.
 pub struct Counts {
@@ -37,7 +37,7 @@ pub enum SliceAnswer {
 }
 
 // What search and path come to: a slice, with its rows and its list in the two buffers; or a word of the store is unsound.
-pub enum Sliced {
+pub enum WalkAnswer {
     Whole(Slice),
     Unsound,
 }
@@ -45,7 +45,7 @@ pub enum Sliced {
 // Refusals 4, 5, 7 and 11, in order, for a head that was read; 0 if none applies.
 fn turned_away(words: usize, h: Head, second: u32, rows: usize, list: usize) -> u32
     requires { ⌜ Within (h .settings) ⌝ }
-    ensures { λ r. ⌜ Ruled h words second rows list r ⌝ }
+    ensures { λ r. ⌜ OwnRefusal h words second rows list r ⌝ }
 {
     if words < h.settings.words() {
         return refusal::SHORT_STORE;
@@ -66,13 +66,13 @@ fn turned_away(words: usize, h: Head, second: u32, rows: usize, list: usize) -> 
 }
 
 // Search, then the path from the block found.
-fn look(store: &[u32], h: Head, second: u32, rows: &mut [u32], list: &mut [u32]) -> Sliced
+fn look(store: &[u32], h: Head, second: u32, rows: &mut [u32], list: &mut [u32]) -> WalkAnswer
     requires { ⌜ Readable (now store) h ⌝ }
     requires { ⌜ Buffers (h .settings) (now rows) (now list) ⌝ }
-    ensures { λ r. ⌜ Slices (lookAt (now (store .entry)) second) (now (rows .entry)) (now (list .entry)) r (now (rows .exit)) (now (list .exit)) ⌝ }
+    ensures { λ r. ⌜ WalkSays (lookAt (now (store .entry)) second) (now (rows .entry)) (now (list .entry)) r (now (rows .exit)) (now (list .exit)) ⌝ }
 {
     let Searched::At(found) = index::search(store, h, second) else {
-        return Sliced::Unsound;
+        return WalkAnswer::Unsound;
     };
     let none = Counts {
         rows: 0,
@@ -80,9 +80,9 @@ fn look(store: &[u32], h: Head, second: u32, rows: &mut [u32], list: &mut [u32])
         blocks: 0,
     };
     let Walked::Done(counts) = walk::path(store, h, found.block, second, rows, list, none) else {
-        return Sliced::Unsound;
+        return WalkAnswer::Unsound;
     };
-    Sliced::Whole(Slice {
+    WalkAnswer::Whole(Slice {
         counts,
         page0: found.page0,
         page1: found.page1,
@@ -97,8 +97,8 @@ fn answer(store: &[u32], h: Head, second: u32, rows: &mut [u32], list: &mut [u32
     ensures { λ r. ⌜ Answers (now (store .entry)) second (now (rows .entry)) (now (list .entry)) r (now (rows .exit)) (now (list .exit)) ⌝ }
 {
     match look(store, h, second, rows, list) {
-        Sliced::Whole(slice) => SliceAnswer::Answered(slice),
-        Sliced::Unsound => {
+        WalkAnswer::Whole(slice) => SliceAnswer::Answered(slice),
+        WalkAnswer::Unsound => {
             parts::zero_all(rows);
             parts::zero_all(list);
             SliceAnswer::Refused(refusal::UNSOUND)
