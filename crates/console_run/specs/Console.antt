@@ -25,8 +25,8 @@ use Rattle.console_run.specs.declared.turn.Stage.the-variants.{SettingsN
 use Rattle.console_run.specs.declared.turn.Said.{Said}
 use Rattle.console_run.specs.declared.turn.Said.the-variants.{Nothing, Bad, No, Slice}
 use Rattle.console_run.specs.declared.turn.Turn.{Turn}
-use Rattle.console_run.specs.declared.turn.Asked.{Asked}
-use Rattle.console_run.specs.declared.turn.Asked.the-variants as asked
+use Rattle.console_run.specs.declared.turn.LineAsks.{LineAsks}
+use Rattle.console_run.specs.declared.turn.LineAsks.the-variants as asked
 
 -- ---- what a line does
 
@@ -90,7 +90,7 @@ settingsDo (settings.Values b q blocks tags) words = called ChangeNames Over 0 (
 settingsDo settings.Bad words = only (badAt Settings) words
 
 -- "Signs: + set, - clear, = new reading, . clock, ? look back"
-abbrev pub askedOf : Line → Asked
+abbrev pub askedOf : Line → LineAsks
 askedOf (change.Set time tag reading) = asked.Call time (call.Set time tag reading)
 askedOf (change.Clear time tag) = asked.Call time (call.Clear time tag)
 askedOf (change.Update time tag reading) = asked.Call time (call.Update time tag reading)
@@ -98,7 +98,7 @@ askedOf (change.Advance time) = asked.Call time (call.Advance time)
 askedOf (change.LookBack time) = asked.Call time (call.LookBack time)
 askedOf change.Bad = asked.Bad
 
-unfoldable pub changeDo : Asked → Lent → Does
+unfoldable pub changeDo : LineAsks → Lent → Does
 changeDo (asked.Call time call) words = called Changes Changes time call words
 changeDo asked.Bad words = only (badAt Changes) words
 

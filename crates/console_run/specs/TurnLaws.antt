@@ -23,8 +23,8 @@ use Rattle.console_text.specs.Input.{settingsNames, settingsLine, changeNames, 
 use Rattle.console_text.specs.Lines.{lineText}
 use Rattle.console_run.specs.declared.turn.Stage.{Stage}
 use Rattle.console_run.specs.declared.turn.Stage.the-variants.{SettingsNames, Settings, ChangeNames, Changes, Over}
-use Rattle.console_run.specs.declared.turn.Asked.{Asked}
-use Rattle.console_run.specs.declared.turn.Asked.the-variants as asked
+use Rattle.console_run.specs.declared.turn.LineAsks.{LineAsks}
+use Rattle.console_run.specs.declared.turn.LineAsks.the-variants as asked
 use Rattle.console_run.specs.declared.turn.Turn.{Turn}
 use Rattle.console_run.specs.declared.turn.Said.the-variants.{Nothing}
 use Rattle.console_run.specs.Console.{Lent, lent, Does, does, only, says, badAt, sameBytes, namesDo, answered, called, settingsDo, askedOf, changeDo, textDoes, lineDoes}
@@ -68,12 +68,12 @@ called-is done refused time p e = rw (e, p .answer, p .store, ← (p .buffers))
 -- ---- what a line asks for
 
 -- The settings ask for start, at time 0.
-abbrev pub startOf : SettingsLine → Asked
+abbrev pub startOf : SettingsLine → LineAsks
 startOf (settings.Values b q blocks tags) = asked.Call 0 (call.Start (settingsOf b q blocks tags))
 startOf settings.Bad = asked.Bad
 
 -- What is asked for at a stage, and what is awaited after it, accepted or refused.
-unfoldable pub askedDo : Stage → Stage → Stage → Asked → Lent → Does
+unfoldable pub askedDo : Stage → Stage → Stage → LineAsks → Lent → Does
 askedDo stage done refused (asked.Call time call) words = called done refused time call words
 askedDo stage done refused asked.Bad words = only (badAt stage) words
 
@@ -81,7 +81,7 @@ pub start-asked : {line : SettingsLine} {b q blocks tags : ℕ} {s : Setting} �
     → s ≡ settingsOf b q blocks tags → asked.Call 0 (call.Start s) ≡ startOf line
 start-asked e f = rw (e, f)
 
-module _ {a : Asked} (stage done refused : Stage) where
+module _ {a : LineAsks} (stage done refused : Stage) where
   pub asked-called : {store rows list store′ rows′ list′ : List ℕ} {time : ℕ} {call : Call} {r : Answer} {t : Turn}
       → a ≡ asked.Call time call → Applied store call rows list r store′ rows′ list′ → t ≡ answered done refused time r
       → does t store′ rows′ list′ ≡ askedDo stage done refused a (lent store rows list)
@@ -97,12 +97,12 @@ unfolding askedDo settingsDo
 start-does (settings.Values b q blocks tags) words = refl
 start-does settings.Bad words = refl
 
-asked-does : (a : Asked) (words : Lent) → askedDo Changes Changes Changes a words ≡ changeDo a words
+asked-does : (a : LineAsks) (words : Lent) → askedDo Changes Changes Changes a words ≡ changeDo a words
 unfolding askedDo changeDo
 asked-does (asked.Call time call) words = refl
 asked-does asked.Bad words = refl
 
-module _ (words : Lent) {a : Asked} {d : Does} where
+module _ (words : Lent) {a : LineAsks} {d : Does} where
   pub settings-does : {read line : SettingsLine} → read ≡ line → a ≡ startOf read
       → d ≡ askedDo Settings ChangeNames Over a words → d ≡ settingsDo line words
   settings-does {line} e f g = g ∙ rw (f, e) (start-does line words)

@@ -39,7 +39,7 @@ pub struct Turn {
 }
 
 // What a change line asks for.
-pub enum Asked {
+pub enum LineAsks {
     // at a time, a call
     Call(u32, Call),
     Bad,
@@ -111,34 +111,34 @@ fn answered(answer: Answer, time: u32, done: Stage, refused: Stage) -> Turn
     }
 }
 
-fn asked_of(line: Line) -> Asked
+fn asked_of(line: Line) -> LineAsks
     ensures { λ r. ⌜ r ≡ askedOf line ⌝ }
 {
     match line {
-        Line::Set(time, tag, reading) => Asked::Call(time, Call::Set(time, tag, reading)),
-        Line::Clear(time, tag) => Asked::Call(time, Call::Clear(time, tag)),
-        Line::Update(time, tag, reading) => Asked::Call(time, Call::Update(time, tag, reading)),
-        Line::Advance(time) => Asked::Call(time, Call::Advance(time)),
-        Line::LookBack(time) => Asked::Call(time, Call::LookBack(time)),
-        Line::Bad => Asked::Bad,
+        Line::Set(time, tag, reading) => LineAsks::Call(time, Call::Set(time, tag, reading)),
+        Line::Clear(time, tag) => LineAsks::Call(time, Call::Clear(time, tag)),
+        Line::Update(time, tag, reading) => LineAsks::Call(time, Call::Update(time, tag, reading)),
+        Line::Advance(time) => LineAsks::Call(time, Call::Advance(time)),
+        Line::LookBack(time) => LineAsks::Call(time, Call::LookBack(time)),
+        Line::Bad => LineAsks::Bad,
     }
 }
 
 // What the settings ask for: to start with them, at time 0.
-fn start_of(line: SettingsLine) -> Asked
+fn start_of(line: SettingsLine) -> LineAsks
     ensures { λ r. ⌜ r ≡ startOf line ⌝ }
 {
     match line {
         SettingsLine::Values(b, q, blocks, tags) => {
-            Asked::Call(0, Call::Start(Settings::asked(b, q, blocks, tags)))
+            LineAsks::Call(0, Call::Start(Settings::asked(b, q, blocks, tags)))
         }
-        SettingsLine::Bad => Asked::Bad,
+        SettingsLine::Bad => LineAsks::Bad,
     }
 }
 
 // What a line of this stage asks for: `done` is awaited after an accepted call, `refused` after a refused one.
 fn called(
-    asked: Asked,
+    asked: LineAsks,
     stage: Stage,
     done: Stage,
     refused: Stage,
@@ -150,11 +150,11 @@ fn called(
         ≡ askedDo stage done refused asked (lent (now (store .entry)) (now (rows .entry)) (now (list .entry))) ⌝ }
 {
     match asked {
-        Asked::Call(time, call) => {
+        LineAsks::Call(time, call) => {
             let answer = applying::apply(store, call, rows, list);
             answered(answer, time, done, refused)
         }
-        Asked::Bad => bad_at(stage),
+        LineAsks::Bad => bad_at(stage),
     }
 }
 

@@ -43,7 +43,7 @@ module _ (g : Gather) (line : List ℕ) (x : ℕ) where
 -- ---- the line so far
 
 -- The bytes since the last newline: all of them, or that they are too many.
-record Holds (g : Gather) (line p : List ℕ) : Type 0 where
+record HoldsLine (g : Gather) (line p : List ℕ) : Type 0 where
   room : length line ≡ lineMost
   len : length p ≤ lineMost → g .len ≡ length p
   short : length p ≤ lineMost → g .long ≡ false
@@ -51,7 +51,7 @@ record Holds (g : Gather) (line p : List ℕ) : Type 0 where
   full : lineMost < length p → g .len ≡ lineMost
   over : lineMost < length p → g .long ≡ true
 
-holds-new : (line : List ℕ) → length line ≡ lineMost → Holds newLine line []
+holds-new : (line : List ℕ) → length line ≡ lineMost → HoldsLine newLine line []
 unfolding newLine
 holds-new line e = record {
   room = e;
@@ -62,7 +62,7 @@ holds-new line e = record {
   over = λ h. absurd (omega arith);
 }
 
-module _ {g : Gather} {line p : List ℕ} (o : Holds g line p) where
+module _ {g : Gather} {line p : List ℕ} (o : HoldsLine g line p) where
   holds-text : lineText g line ≡ textOf p
   unfolding lineText textOf
   holds-text = lt? lineMost (length p)
@@ -88,7 +88,7 @@ module _ {g : Gather} {line p : List ℕ} (o : Holds g line p) where
     longer = simp length-append
 
     -- There is room.
-    room-left : length p < lineMost → Holds (grown g) (fedLine g line x) (p ++ (x ∷ []))
+    room-left : length p < lineMost → HoldsLine (grown g) (fedLine g line x) (p ++ (x ∷ []))
     unfolding grown fedLine
     room-left h =
         let l : g .len ≡ length p = o .len (omega arith) in
@@ -105,7 +105,7 @@ module _ {g : Gather} {line p : List ℕ} (o : Holds g line p) where
         })
 
     -- There is none: the line is too long from here on.
-    room-none : lineMost ≤ length p → Holds (grown g) (fedLine g line x) (p ++ (x ∷ []))
+    room-none : lineMost ≤ length p → HoldsLine (grown g) (fedLine g line x) (p ++ (x ∷ []))
     unfolding grown fedLine
     room-none h =
         let l : g .len ≡ lineMost = lt? lineMost (length p) (o .full) (λ a. o .len a ∙ (omega arith)) in
@@ -119,7 +119,7 @@ module _ {g : Gather} {line p : List ℕ} (o : Holds g line p) where
           over = λ a. refl;
         })
 
-    holds-fed : Holds (grown g) (fedLine g line x) (p ++ (x ∷ []))
+    holds-fed : HoldsLine (grown g) (fedLine g line x) (p ++ (x ∷ []))
     holds-fed = lt? (length p) lineMost room-left room-none
 
 -- ---- the whole input
@@ -155,7 +155,7 @@ parts-last : (p : List ℕ) → ontoFirst p (split 10 []) ≡ p ∷ []
 unfolding split ontoFirst
 parts-last p = rw append-nil
 
-gathers : (input : List ℕ) {g : Gather} {line p : List ℕ} → Holds g line p
+gathers : (input : List ℕ) {g : Gather} {line p : List ℕ} → HoldsLine g line p
     → gathered g line input ≡ ended (ontoFirst p (split 10 input))
 gathers [] {g} {line} {p} o = gathered-none g line ∙ holds-last o ∙ ap ended (sym (parts-last p))
 gathers (x ∷ rest) {g} {line} {p} o = is? x 10

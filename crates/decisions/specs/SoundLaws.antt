@@ -61,15 +61,15 @@ pub not-leb : (a b : ℕ) → ltb b a ≡ not (leb a b)
 not-leb a b = lt? b a (λ l. simp (lt-ltb b a l, lt-leb a b l)) (λ l. simp (le-ltb b a l, le-leb a b l))
 
 -- ---- one of the standing slots has p: a look at each, in slot order. Of the slots left one has p if one of all has it.
-pub record Looked (p : ℕ → Bool) (all left : Standing) : Type 0 where
+pub record LookedAt (p : ℕ → Bool) (all left : Standing) : Type 0 where
   pub words : TwoWords left
   pub same : anyOf p (slots left) ≡ anyOf p (slots all)
 
-pub look-begin : {p : ℕ → Bool} {all left : Standing} → left .low < 2 ^ 32 → left .high < 2 ^ 32 → left ≡ all → Looked p all left
+pub look-begin : {p : ℕ → Bool} {all left : Standing} → left .low < 2 ^ 32 → left .high < 2 ^ 32 → left ≡ all → LookedAt p all left
 look-begin {p} l h e = record { words = record { low = l; high = h }; same = ap (λ (b : Standing). anyOf p (slots b)) e }
 
 -- t is the answer of `is_empty`
-module _ {p : ℕ → Bool} {all left : Standing} {t : Bool} (l : Looked p all left) (is-empty : t ≡ empty.none left) where
+module _ {p : ℕ → Bool} {all left : Standing} {t : Bool} (l : LookedAt p all left) (is-empty : t ≡ empty.none left) where
   pub look-none : not t ≡ false → false ≡ anyOf p (slots all)
   look-none e = let z : anyOf p (slots left) ≡ false = rw (slots-empty left (sym is-empty ∙ not-false t e)) in sym z ∙ l .same
 
@@ -84,7 +84,7 @@ module _ {p : ℕ → Bool} {all left : Standing} {t : Bool} (l : Looked p all l
     pub look-found : {b : Bool} → b ≡ p k → b ≡ true → true ≡ anyOf p (slots all)
     look-found x g = sym (next (sym x ∙ g)) ∙ l .same
 
-    pub look-on : {b : Bool} {rest : Standing} → b ≡ p k → b ≡ false → rest ≡ otherSlots left → Looked p all rest
+    pub look-on : {b : Bool} {rest : Standing} → b ≡ p k → b ≡ false → rest ≡ otherSlots left → LookedAt p all rest
     look-on x g q = rw q (record { words = other-words left (l .words); same = sym (next (sym x ∙ g)) ∙ l .same })
 
     pub look-fewer : {rest : Standing} → rest ≡ otherSlots left → length (slots rest) < length (slots left)

@@ -9,7 +9,7 @@ const WORDS: usize = 4592;
 type Store = [u32; WORDS];
 
 // A step: its kind, how many words of the store are lent, and three numbers more.
-struct Step(u32, usize, u32, u32, u32);
+struct Trial(u32, usize, u32, u32, u32);
 
 // b and B; a second, a tag and a reading, of which a call takes what it asks for; the place of a word and what is written there.
 const START: u32 = 1;
@@ -41,45 +41,45 @@ const SCRIPT: [u8; 140] = *b"P8
 // P8 and P12, where the last store is one word too short for a register; then stores too short for the layout of their head, or for a head;
 // the printed changes; P9, P10 and P11; the refusals that need some state; a new reading and a clock move; a directory word that names no
 // placed record, which is unsound, and a head with another mark; with one block the fifth set would open another.
-const STEPS: [Step; 38] = [
-    Step(START, 4592, 4, 8, 0),
-    Step(START, 4592, 3, 8, 0),
-    Step(START, 4592, 4, 8, 0),
-    Step(START, 4591, 4, 8, 0),
-    Step(ADVANCE, 4591, 1, 0, 0),
-    Step(START, 15, 4, 8, 0),
-    Step(SET, 15, 1, 1, 1),
-    Step(SET, 4592, 1, 1, 25),
-    Step(SET, 4592, 2, 2, 4294967271),
-    Step(SET, 4592, 3, 3, 5),
-    Step(SET, 4592, 4, 4, 140),
-    Step(SET, 4592, 5, 5, 0),
-    Step(CLEAR, 4592, 6, 2, 0),
-    Step(CLEAR, 4592, 7, 3, 0),
-    Step(CLEAR, 4592, 8, 1, 0),
-    Step(SET, 4592, 8, 6, 1),
-    Step(SET, 4592, 7, 7, 1),
-    Step(SET, 4592, 8, 15, 1),
-    Step(SET, 4592, 8, 16, 1),
-    Step(ADVANCE, 4592, layout::OPEN, 0, 0),
-    Step(ADVANCE, 4592, 7, 0, 0),
-    Step(SET, 4592, 9, 4, 1),
-    Step(CLEAR, 4592, 9, 2, 0),
-    Step(UPDATE, 4592, 9, 2, 1),
-    Step(UPDATE, 4592, 9, 4, 4294967295),
-    Step(ADVANCE, 4592, 12, 0, 0),
-    Step(WRITE, 4592, 4389, 99, 0),
-    Step(CLEAR, 4592, 13, 5, 0),
-    Step(UPDATE, 4592, 13, 5, 1),
-    Step(WRITE, 4592, 0, 7000, 0),
-    Step(ADVANCE, 4592, 13, 0, 0),
-    Step(START, 4592, 4, 1, 0),
-    Step(SET, 4592, 1, 0, 10),
-    Step(SET, 4592, 1, 1, 11),
-    Step(SET, 4592, 1, 2, 12),
-    Step(SET, 4592, 1, 3, 13),
-    Step(SET, 4592, 1, 4, 14),
-    Step(UPDATE, 4592, 1, 3, 7),
+const STEPS: [Trial; 38] = [
+    Trial(START, 4592, 4, 8, 0),
+    Trial(START, 4592, 3, 8, 0),
+    Trial(START, 4592, 4, 8, 0),
+    Trial(START, 4591, 4, 8, 0),
+    Trial(ADVANCE, 4591, 1, 0, 0),
+    Trial(START, 15, 4, 8, 0),
+    Trial(SET, 15, 1, 1, 1),
+    Trial(SET, 4592, 1, 1, 25),
+    Trial(SET, 4592, 2, 2, 4294967271),
+    Trial(SET, 4592, 3, 3, 5),
+    Trial(SET, 4592, 4, 4, 140),
+    Trial(SET, 4592, 5, 5, 0),
+    Trial(CLEAR, 4592, 6, 2, 0),
+    Trial(CLEAR, 4592, 7, 3, 0),
+    Trial(CLEAR, 4592, 8, 1, 0),
+    Trial(SET, 4592, 8, 6, 1),
+    Trial(SET, 4592, 7, 7, 1),
+    Trial(SET, 4592, 8, 15, 1),
+    Trial(SET, 4592, 8, 16, 1),
+    Trial(ADVANCE, 4592, layout::OPEN, 0, 0),
+    Trial(ADVANCE, 4592, 7, 0, 0),
+    Trial(SET, 4592, 9, 4, 1),
+    Trial(CLEAR, 4592, 9, 2, 0),
+    Trial(UPDATE, 4592, 9, 2, 1),
+    Trial(UPDATE, 4592, 9, 4, 4294967295),
+    Trial(ADVANCE, 4592, 12, 0, 0),
+    Trial(WRITE, 4592, 4389, 99, 0),
+    Trial(CLEAR, 4592, 13, 5, 0),
+    Trial(UPDATE, 4592, 13, 5, 1),
+    Trial(WRITE, 4592, 0, 7000, 0),
+    Trial(ADVANCE, 4592, 13, 0, 0),
+    Trial(START, 4592, 4, 1, 0),
+    Trial(SET, 4592, 1, 0, 10),
+    Trial(SET, 4592, 1, 1, 11),
+    Trial(SET, 4592, 1, 2, 12),
+    Trial(SET, 4592, 1, 3, 13),
+    Trial(SET, 4592, 1, 4, 14),
+    Trial(UPDATE, 4592, 1, 3, 7),
 ];
 
 fn number(x: u32) {
@@ -134,7 +134,7 @@ fn show(store: &Store) {
     }
 }
 
-fn call(lent: &mut [u32], s: Step) -> Change {
+fn call(lent: &mut [u32], s: Trial) -> Change {
     let kind = s.0;
     match kind {
         START => changes::start(lent, Settings::asked(s.2, 2, s.3, 16)),
@@ -145,7 +145,7 @@ fn call(lent: &mut [u32], s: Step) -> Change {
     }
 }
 
-fn take(store: &mut [u32], s: Step) {
+fn take(store: &mut [u32], s: Trial) {
     let at = s.2 as usize;
     let lent = s.1;
     let all = store.len();
@@ -158,12 +158,12 @@ fn take(store: &mut [u32], s: Step) {
     }
 }
 
-// Step i; after the last one nothing.
-fn step_number(i: usize) -> Step {
+// Trial i; after the last one nothing.
+fn step_number(i: usize) -> Trial {
     if i < 38 {
         return STEPS[i];
     }
-    Step(WRITE, 0, layout::OPEN, 0, 0)
+    Trial(WRITE, 0, layout::OPEN, 0, 0)
 }
 
 // A byte of the script, with the number of the step that is next; that of the step after it.

@@ -1,5 +1,5 @@
 -- The parts of a change go well where their blocks, slots and tags are the layout's, and what each leaves: a record ended (Ended), one placed in the
--- acceptor (Placed), a block out of the row of open blocks (Unlinked), a new block (Grown). Of the words only up, right, bits and tags matter here.
+-- acceptor (RecordPut), a block out of the row of open blocks (Unlinked), a new block (Grown). Of the words only up, right, bits and tags matter here.
 use mathlib.Core.Path.{_≡_, refl, ap, _∙_}
 use mathlib.Core.Logic.{_≢_}
 use mathlib.Core.Bool.{cond}
@@ -33,7 +33,7 @@ pub record Ended (f : Memory) (n k : ℕ) (g : Memory) : Type 0 where
   pub elsewhere : (m : ℕ) → m ≢ n → blockBits g m ≡ blockBits f m
 
 -- ---- a record with this tag goes to the acceptor's next slot
-pub record Placed (f : Memory) (c : Cursor) (tag : ℕ) (d : Cursor) (g : Memory) : Type 0 where
+pub record RecordPut (f : Memory) (c : Cursor) (tag : ℕ) (d : Cursor) (g : Memory) : Type 0 where
   pub opened : d .opened ≡ c .opened
   pub fill : d .fill ≡ c .fill + 1
   pub here : g (Slot (c .opened) (c .fill) tagWord) ≡ tag
@@ -60,7 +60,7 @@ pub record Grown (f : Memory) (c d : Cursor) (g : Memory) : Type 0 where
   pub right : 1 ≤ c .opened → g (Field (c .opened) rightWord) ≡ c .opened + 1
 
 -- the times are written, and no word of a block
-record Entered (f g : Memory) : Type 0 where
+record BlocksKept (f g : Memory) : Type 0 where
   fields : (n j : ℕ) → g (Field n j) ≡ f (Field n j)
   bits : (n w : ℕ) → g (Bits n w) ≡ f (Bits n w)
   tags : (n k : ℕ) → g (Slot n k tagWord) ≡ f (Slot n k tagWord)
@@ -81,7 +81,7 @@ module _ (s : Settings) (z : Within s) where
       }))
 
   pub put-goes : (c : Cursor) (f : Memory) (now tag reading : ℕ) → Numbered s (c .opened) → c .fill < s .block → tag < s .tags
-      → Goes s (putRecord s c now tag reading) f (Placed f c tag)
+      → Goes s (putRecord s c now tag reading) f (RecordPut f c tag)
   unfolding putRecord
   put-goes c f now tag reading nn room known =
       let word : c .fill / 32 < 2 = omega (arith, z .most) in
@@ -98,7 +98,7 @@ module _ (s : Settings) (z : Within s) where
 
   -- a record of an older block is placed again
   pub move-goes : (c : Cursor) (f : Memory) (x now k : ℕ) → Numbered s x → Movable s f x k → x ≢ c .opened → Numbered s (c .opened) → c .fill < s .block
-      → Goes s (moveRecord s x now k c) f (Placed f c (f (Slot x k tagWord)))
+      → Goes s (moveRecord s x now k c) f (RecordPut f c (f (Slot x k tagWord)))
   unfolding moveRecord
   move-goes c f x now k nx m apart nn room =
       goes-get (nx, m .slot, lit≤ tt) (goes-get (nx, m .slot, lit≤ tt) (goes-on (end-goes x k now f nx (m .slot)) (λ u g e.
@@ -130,13 +130,13 @@ module _ (s : Settings) (z : Within s) where
       goes-get (nu, lit≤ tt) (goes-set (nu, lit≤ tt) (goes-set (nx, lit≤ tt) (goes-set (nu, lit≤ tt)
       (goes-ret (record { opened = refl; fill = refl; tags = λ n k. refl; bits = λ n. refl; ups = λ n. refl }))))))))))
 
-  time-goes : {f : Memory} (l i now : ℕ) (g : Memory) → l < 3 → i < levelLen l → Entered f g → Goes s (set! (Time l i) now) g (λ x h. Entered f h)
+  time-goes : {f : Memory} (l i now : ℕ) (g : Memory) → l < 3 → i < levelLen l → BlocksKept f g → Goes s (set! (Time l i) now) g (λ x h. BlocksKept f h)
   time-goes l i now g a b e = record { safe = ((a, b), tt); leaves = record { fields = e .fields; bits = e .bits; tags = e .tags } }
 
-  enter-goes : (i now : ℕ) (f : Memory) → i < 4096 → Goes s (enterTime i now) f (λ x g. Entered f g)
+  enter-goes : (i now : ℕ) (f : Memory) → i < 4096 → Goes s (enterTime i now) f (λ x g. BlocksKept f g)
   unfolding enterTime
   enter-goes i now f a =
-      let first : Entered f f = record { fields = λ n j. refl; bits = λ n w. refl; tags = λ n k. refl } in
+      let first : BlocksKept f f = record { fields = λ n j. refl; bits = λ n w. refl; tags = λ n k. refl } in
       let b : i / 16 < 256 = omega arith in
       let d : i / 256 < 16 = omega arith in
       goes-on (time-goes 0 i now f (lit≤ tt) a first) (λ x g e.

@@ -1,4 +1,4 @@
--- Room for records: where m more are to come (Ready), the acceptor takes the next one, or block N + 1 opens and block N, if it then closes, is sound. At most
+-- Room for records: where m more are to come (RoomFor), the acceptor takes the next one, or block N + 1 opens and block N, if it then closes, is sound. At most
 -- one block opens: the new one has room for block N's copies, fewer than q, and for the m ≤ q records.
 use mathlib.Core.Path.{_≡_, refl, ap, sym, _∙_, subst}
 use mathlib.Core.Logic.{_≢_}
@@ -25,10 +25,10 @@ use Rattle.calls.specs.Placing.{moveRecord, closeFull, judgeFull, roll, makeRoo
 use Rattle.calls.specs.Refusals.{takenUp}
 use Rattle.safety.specs.Goes.{Goes, goes-ret, goes-on, goes-when, goes-each, goes-so}
 use Rattle.safety.specs.Sound.{Movable, Sound, sound-slots, sound-in, all-first, all-others}
-use Rattle.safety.specs.Parts.{Placed, put-goes, move-goes, goes-standing, unlink-goes, open-goes}
+use Rattle.safety.specs.Parts.{RecordPut, put-goes, move-goes, goes-standing, unlink-goes, open-goes}
 
 -- ---- m more records are to come, with n blocks opened and fill records in the last
-pub record Ready (s : Settings) (f : Memory) (m n fill : ℕ) : Type 0 where
+pub record RoomFor (s : Settings) (f : Memory) (m n fill : ℕ) : Type 0 where
   -- no sum wraps: the cursor's bounds along the way
   pub limit : n ≤ s .blocks
   pub fits : fill ≤ s .block
@@ -47,7 +47,7 @@ record Rolled (s : Settings) (f : Memory) (y : ℕ) (d : Cursor) (g : Memory) : 
 
 -- the acceptor has room for the next of m records
 pub record Room (s : Settings) (f : Memory) (m : ℕ) (c d : Cursor) (g : Memory) : Type 0 where
-  pub ready : Ready s g m (d .opened) (d .fill)
+  pub ready : RoomFor s g m (d .opened) (d .fill)
   pub low : 1 ≤ d .opened
   pub room : d .fill < s .block
   pub grows : c .opened ≤ d .opened
@@ -66,7 +66,7 @@ pub still-movable : {s : Settings} {f g : Memory} {x : ℕ} {l : List ℕ} → (
 still-movable e a = all-map (λ k m. record { slot = m .slot; tag = rw (e k) (m .tag) }) a
 
 -- an acceptor that is sound stays so with a record more
-placed-sound : {s : Settings} {f g : Memory} {c d : Cursor} {tag : ℕ} → Placed f c tag d g → c .fill < s .block → tag < s .tags → Sound s f (c .opened)
+placed-sound : {s : Settings} {f g : Memory} {c d : Cursor} {tag : ℕ} → RecordPut f c tag d g → c .fill < s .block → tag < s .tags → Sound s f (c .opened)
     → Sound s g (c .opened)
 placed-sound {s} {f} {g} {c} p room known i = record {
   up = rw (p .ups (c .opened)) (i .up);
@@ -141,7 +141,7 @@ module _ (s : Settings) (z : Within s) where
       (λ d′ g′ r. record { opened = r .opened; fill = r .fill; tags = λ n k u. r .tags n k u ∙ o .tags n k u })))
 
   -- ---- room for a record that comes, the first of m
-  pub room-goes : {m : ℕ} (c : Cursor) (f : Memory) (now : ℕ) → Ready s f m (c .opened) (c .fill) → 1 ≤ m → Goes s (makeRoom s c now) f (Room s f m c)
+  pub room-goes : {m : ℕ} (c : Cursor) (f : Memory) (now : ℕ) → RoomFor s f m (c .opened) (c .fill) → 1 ≤ m → Goes s (makeRoom s c now) f (Room s f m c)
   unfolding makeRoom
   room-goes {m} c f now i comes =
       let N = c .opened in
@@ -181,8 +181,8 @@ module _ (s : Settings) (z : Within s) where
       }))
 
   -- ---- the record goes there
-  pub put-ready : {f g : Memory} {m tag : ℕ} {c d : Cursor} → Ready s f (m + 1) (c .opened) (c .fill) → 1 ≤ c .opened → c .fill < s .block → tag < s .tags
-      → Placed f c tag d g → Ready s g m (d .opened) (d .fill)
+  pub put-ready : {f g : Memory} {m tag : ℕ} {c d : Cursor} → RoomFor s f (m + 1) (c .opened) (c .fill) → 1 ≤ c .opened → c .fill < s .block → tag < s .tags
+      → RecordPut f c tag d g → RoomFor s g m (d .opened) (d .fill)
   put-ready {f} {g} {m} {tag} {c} {d} i low room known p =
       let N = c .opened in
       let more : s .block - c .fill ≡ suc (s .block - (c .fill + 1)) = omega arith in
@@ -199,8 +199,8 @@ module _ (s : Settings) (z : Within s) where
       })
 
   -- ---- a record is placed, of m + 1 to come
-  pub place-goes : {m : ℕ} (c : Cursor) (f : Memory) (now tag reading : ℕ) → Ready s f (m + 1) (c .opened) (c .fill) → tag < s .tags
-      → Goes s (place s c now tag reading) f (λ d g. Ready s g m (d .opened) (d .fill))
+  pub place-goes : {m : ℕ} (c : Cursor) (f : Memory) (now tag reading : ℕ) → RoomFor s f (m + 1) (c .opened) (c .fill) → tag < s .tags
+      → Goes s (place s c now tag reading) f (λ d g. RoomFor s g m (d .opened) (d .fill))
   unfolding place
   place-goes {m} c f now tag reading i known =
       goes-on (room-goes c f now i (omega arith)) (λ d g r.

@@ -25,7 +25,7 @@ use Rattle.calls.specs.Placing.{slotOf}
 use Rattle.calls.specs.Refusals.{opens, takenUp, acceptorCloses, tagBlock, remaining, closes, copies, afterClear, badPlace, badBlock, unsoundSet, unsoundClear, blocksOut}
 use Rattle.safety.specs.Sound.{Sound, Between, found-sound, found-right}
 use Rattle.safety.specs.Parts.{Ended}
-use Rattle.safety.specs.Room.{Ready}
+use Rattle.safety.specs.Room.{RoomFor}
 use Rattle.safety.specs.Leaving.{Clearable, ended-sound}
 
 -- a false `&&` whose first test is true, and a `||` whose last is
@@ -54,7 +54,7 @@ module _ (h : Head) (sound : SoundHead h) where
   -- words as found say so.
   pub ready-for : {m : ℕ} (f : Memory) (a : Standing) → m ≤ s .useful → blocksOut h m ≡ false
       → (acceptorCloses h a m && badBlock h f (h .cursor .opened)) ≡ false → {g : Memory} → blockBits g (h .cursor .opened) ≡ a
-      → (Sound s f (h .cursor .opened) → Sound s g (h .cursor .opened)) → Ready s g m (h .cursor .opened) (h .cursor .fill)
+      → (Sound s f (h .cursor .opened) → Sound s g (h .cursor .opened)) → RoomFor s g m (h .cursor .opened) (h .cursor .fill)
   ready-for {m} f a few out bad {g} bits keeps = record {
     limit = sound .opened;
     fits = sound .fill;
@@ -69,7 +69,7 @@ module _ (h : Head) (sound : SoundHead h) where
         keeps (found-sound h f (h .cursor .opened) (and-rest bad closing));
   }
 
-  pub set-ready : (f : Memory) → unsoundSet h f ≡ false → blocksOut h 1 ≡ false → Ready s f 1 (h .cursor .opened) (h .cursor .fill)
+  pub set-ready : (f : Memory) → unsoundSet h f ≡ false → blocksOut h 1 ≡ false → RoomFor s f 1 (h .cursor .opened) (h .cursor .fill)
   unfolding unsoundSet
   set-ready f bad out = ready-for f (blockBits f (h .cursor .opened)) (sound .within .some) out bad refl (λ i. i)
 
@@ -132,14 +132,14 @@ module _ (h : Head) (sound : SoundHead h) (f : Memory) (tag : ℕ) (d : f (Dir t
         (λ u. simp (eq-eqb n N u) (rw u at (e .here)))
         (λ u. simp (ne-eqb n N u) (e .elsewhere N (λ w. u (sym w))))
 
-    ready-after : Ready (h .settings) g (copies h f n + more) N (h .cursor .fill)
+    ready-after : RoomFor (h .settings) g (copies h f n + more) N (h .cursor .fill)
     ready-after = ready-for h sound f (afterClear h f tag) (copies-few one) out (tests .1) bits-after (λ i. ended-sound e i)
 
   pub clearable : more ≤ 1 → blocksOut h (copies h f n + more) ≡ false → Clearable (h .settings) f (h .cursor) n k more
   clearable one out = record {
     high = lies .high;
     slot = lies .slot;
-    acceptor = λ g e u. subst (λ (m : ℕ). Ready (h .settings) g m N (h .cursor .fill)) (none-here u) (ready-after one out g e);
+    acceptor = λ g e u. subst (λ (m : ℕ). RoomFor (h .settings) g m N (h .cursor .fill)) (none-here u) (ready-after one out g e);
     closes = λ g e apart short.
         let few : remaining h f n < q = subst (λ (m : ℕ). m < q) fewer short in
         let t = closes-few apart few in
@@ -150,8 +150,8 @@ module _ (h : Head) (sound : SoundHead h) (f : Memory) (tag : ℕ) (d : f (Dir t
         record {
           sound = ended-sound e (found-sound h f n good);
           right = right;
-          ready = subst (λ (m : ℕ). Ready (h .settings) g m N (h .cursor .fill)) moved (ready-after one out g e);
+          ready = subst (λ (m : ℕ). RoomFor (h .settings) g m N (h .cursor .fill)) moved (ready-after one out g e);
         };
     stays = λ g e apart many.
-        subst (λ (m : ℕ). Ready (h .settings) g m N (h .cursor .fill)) (none-many apart (subst (λ (m : ℕ). q ≤ m) fewer many)) (ready-after one out g e);
+        subst (λ (m : ℕ). RoomFor (h .settings) g m N (h .cursor .fill)) (none-many apart (subst (λ (m : ℕ). q ≤ m) fewer many)) (ready-after one out g e);
   }

@@ -35,7 +35,7 @@ use Rattle.theory.specs.Rest.{headWith, copiesOf, booked-length, after-s
 use Rattle.theory.specs.Sound.{set-sound, clear-sound, same-copies}
 use Rattle.theory.specs.Right.{walk-sound}
 use Rattle.theory.specs.Stored.{head-passes}
-use Rattle.theory.specs.TestLaws.{Alike, same, both, idle, alike-free, free-alike, alike-first, lacks, never-first}
+use Rattle.theory.specs.TestLaws.{TablesAlike, same, both, idle, alike-free, free-alike, alike-first, lacks, never-first}
 use Rattle.theory.specs.EveryLookBack.{every-call}
 use Rattle.theory.specs.Honest.{Honest, head-is, word-is, sound, words-same, head-sound}
 
@@ -90,13 +90,13 @@ module _ {ws : List ℕ} {a : Account} (i : Honest ws a) where
       refl
 
   -- ---- the tests of the words never apply, those of the second are the account's
-  by-store : {l m : List Test} → Alike l m → Alike (storeTests ws l) m
+  by-store : {l m : List Test} → TablesAlike l m → TablesAlike (storeTests ws l) m
   by-store g =
       let room : ltb (length ws) (layoutLen (headOf ws .settings)) ≡ false =
       ap (λ (x : Settings). ltb (length ws) (layoutLen x)) settings-is ∙ le-ltb (length ws) (layoutLen s) (over-fits s (i .stored .agree .good) .long) in
       idle (le-ltb (length ws) headLen (i .stored .read .long)) (idle (head-passes (i .stored .read)) (idle room g))
 
-  by-time : (now : ℕ) {l m : List Test} → (c .clock ≤ now → now < OPEN → Alike l m) → Alike (timeTests ws now l) (accountTime a now m)
+  by-time : (now : ℕ) {l m : List Test} → (c .clock ≤ now → now < OPEN → TablesAlike l m) → TablesAlike (timeTests ws now l) (accountTime a now m)
   by-time now g =
       by-store (both refl refl (λ x₅. both refl (ap (λ (t : ℕ). ltb now t) clock-is) (λ x₆.
       g (omega (arith, i .clock, ltb-false now (a .clock) x₆)) (leb-false OPEN now x₅))))
@@ -135,7 +135,7 @@ module _ {ws : List ℕ} {a : Account} (i : Honest ws a) where
         ∙ update-foretold h (head-sound i) f now tag reading d (own-sound 1) .blocks)
 
   -- ---- the tests of each call
-  by-set : (now tag reading : ℕ) → Alike (testsOf ws (Set now tag reading)) (accountTests (length ws) a (Set now tag reading))
+  by-set : (now tag reading : ℕ) → TablesAlike (testsOf ws (Set now tag reading)) (accountTests (length ws) a (Set now tag reading))
   by-set now tag reading = by-time now (λ later ends. both refl (tags-is tag) (λ x₈.
       let known = leb-false (s .tags) tag x₈ in
       both refl (ap not (word-free tag known) ∙ twice (among tag (soFar (a .log)))) (λ x₉.
@@ -149,7 +149,7 @@ module _ {ws : List ℕ} {a : Account} (i : Honest ws a) where
   by-clear : (more now tag : ℕ) (after : Book)
       → (c .clock ≤ now → now < OPEN → tag < s .tags → f (Dir tag) ≢ 0
       → blocksOut (headOf ws) (copies (headOf ws) (wordsRead ws) (tagBlock (headOf ws) (wordsRead ws) tag) + more) ≡ outOfBlocks a after)
-      → Alike (timeTests ws now (clearOwn more (headOf ws) (wordsRead ws) tag)) (accountClear a now tag after)
+      → TablesAlike (timeTests ws now (clearOwn more (headOf ws) (wordsRead ws) tag)) (accountClear a now tag after)
   by-clear more now tag after out = by-time now (λ later ends. both refl (tags-is tag) (λ x₈.
       let known = leb-false (s .tags) tag x₈ in
       both refl (word-free tag known) (λ x₁₀.
@@ -161,7 +161,7 @@ module _ {ws : List ℕ} {a : Account} (i : Honest ws a) where
       ≡ (ltb (length rows) (rowLen * s .tags) || ltb (length list) (s .blocks))
   short-is rows list = ap (λ (x : Settings). ltb (length rows) (rowLen * x .tags) || ltb (length list) (x .blocks)) settings-is
 
-  pub decides : (x : Call) → Alike (testsOf ws x) (accountTests (length ws) a x)
+  pub decides : (x : Call) → TablesAlike (testsOf ws x) (accountTests (length ws) a x)
   decides (Start r) = both refl refl (λ x₁. idle (le-ltb (length ws) headLen (i .stored .read .long)) (both refl refl (λ x₄. same)))
   decides (Set now tag reading) = by-set now tag reading
   decides (Clear now tag) = by-clear 0 now tag (bookClear now tag (a .book)) (λ later ends known d. clear-out now tag later ends known d)

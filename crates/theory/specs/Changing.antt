@@ -177,18 +177,18 @@ module _ {s : Settings} {Due : ℕ → Type 0} {log : Timeline} where
 
 -- ---- a tag is cleared
 -- what the directory has is the place of a standing record
-pub record StandsAt (s : Settings) (c : Cursor) (f : Memory) (tag n k : ℕ) : Type 0 where
+pub record PlaceStands (s : Settings) (c : Cursor) (f : Memory) (tag n k : ℕ) : Type 0 where
   pub placed : Placed (c .opened) (c .fill) (s .block) n k
   pub unended : f (Slot n k toWord) ≡ OPEN
   pub tagged : f (Slot n k tagWord) ≡ tag
 
 module _ {s : Settings} {Due : ℕ → Type 0} {clock : ℕ} {log : Timeline} where
   pub place-stands : (c : Cursor) (f : Memory) (tag : ℕ) → State s Due clock log (shape c f) → f (Dir tag) ≢ 0
-      → StandsAt s c f tag (blockOf s (f (Dir tag))) (slotOf s (f (Dir tag)))
+      → PlaceStands s c f tag (blockOf s (f (Dir tag))) (slotOf s (f (Dir tag)))
   place-stands c f tag i d = let w = i .found .found tag d in go (w .0) (w .1) (w .2) (w .3)
     where
       go : (n k : ℕ) → f (Slot n k toWord) ≡ OPEN → f (Slot n k tagWord) ≡ tag
-          → StandsAt s c f tag (blockOf s (f (Dir tag))) (slotOf s (f (Dir tag)))
+          → PlaceStands s c f tag (blockOf s (f (Dir tag))) (slotOf s (f (Dir tag)))
       go n k o t =
           let p = i .kept .used n k (omega (arith, i .past)) in
           let e : f (Dir tag) ≡ placeOf s n k = ap (λ (y : ℕ). f (Dir y)) (sym t) ∙ i .found .finds n k o in

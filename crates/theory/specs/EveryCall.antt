@@ -148,11 +148,11 @@ all-but : {l : List Test} → All (λ x. x .applies ≡ false) l → AllBut13 l
 all-but a = all-map (λ x e _. e) a
 
 -- ---- a change at s: the words are a store with a sound head, and s is a second not before the clock
-record Ready (ws : List ℕ) (s : ℕ) : Type 0 where
+record MayChange (ws : List ℕ) (s : ℕ) : Type 0 where
   stored : Stored ws (headOf ws) (wordsRead ws)
   ends : s < OPEN
 
-ready : (ws : List ℕ) (s : ℕ) {l : List Test} → AllBut13 (timeTests ws s l) → Ready ws s × AllBut13 l
+ready : (ws : List ℕ) (s : ℕ) {l : List Test} → AllBut13 (timeTests ws s l) → MayChange ws s × AllBut13 l
 unfolding headAnswer
 ready ws s (cons x₂ (cons x₃ (cons x₄ (cons x₅ (cons x₆ r))))) =
     let h = headOf ws in
@@ -183,7 +183,7 @@ module _ (ws : List ℕ) (s : ℕ) where
   f = wordsRead ws
 
   -- what a run leaves, where each address is the layout's and the cursor is within its bounds
-  left-by : (p : Prog Cursor) → Ready ws s → Goes (h .settings) p f (λ d g. Next (h .settings) s d) → HeadMoved ((runOn p f) .0) f ((runOn p f) .1) → Left (h .settings) p ws f
+  left-by : (p : Prog Cursor) → MayChange ws s → Goes (h .settings) p f (λ d g. Next (h .settings) s d) → HeadMoved ((runOn p f) .0) f ((runOn p f) .1) → Left (h .settings) p ws f
   left-by p i goes moved =
       stored-run p (i .stored) (over-safe (h .settings) p f (goes .safe)) moved (next-head (i .stored .read .sound .within) (i .ends) (goes .leaves))
 
@@ -216,7 +216,7 @@ module _ (ws : List ℕ) (s : ℕ) where
 
   module _ (tag : ℕ) where
     -- ---- a set
-    set-left : (reading : ℕ) → Ready ws s → All (λ y. y .applies ≡ false) (setOwn h f tag) → Left (h .settings) (setProgram (h .settings) (h .cursor) s tag reading) ws f
+    set-left : (reading : ℕ) → MayChange ws s → All (λ y. y .applies ≡ false) (setOwn h f tag) → Left (h .settings) (setProgram (h .settings) (h .cursor) s tag reading) ws f
     set-left reading i (cons x₈ (cons x₉ (cons x₁₂ (cons x₁₃ nil)))) =
         let sound = i .stored .read .sound in
         let known : tag < h .settings .tags = leb-false (h .settings .tags) tag x₈ in
@@ -239,7 +239,7 @@ module _ (ws : List ℕ) (s : ℕ) where
     clear-own : (more : ℕ) → AllBut13 (clearOwn more h f tag) → (f (Dir tag) ≢ 0) × (unsoundClear h f more tag ≡ false)
     clear-own more (cons x₈ (cons x₁₀ (cons x₁₂ (cons x₁₃ nil)))) = (eqb-false (f (Dir tag)) 0 (x₁₀ (omega arith)), x₁₂ (omega arith))
 
-    clear-left : Ready ws s → All (λ y. y .applies ≡ false) (clearOwn 0 h f tag) → Left (h .settings) (clearProgram (h .settings) (h .cursor) s tag) ws f
+    clear-left : MayChange ws s → All (λ y. y .applies ≡ false) (clearOwn 0 h f tag) → Left (h .settings) (clearProgram (h .settings) (h .cursor) s tag) ws f
     clear-left i (cons x₈ (cons x₁₀ (cons x₁₂ (cons x₁₃ nil)))) =
         let sound = i .stored .read .sound in
         let known : tag < h .settings .tags = leb-false (h .settings .tags) tag x₈ in
@@ -259,7 +259,7 @@ module _ (ws : List ℕ) (s : ℕ) where
         (λ a. clear-left (ready ws s (all-but a) .0) (own ws s a)) clear-told (others 0))
         clear-told
 
-    update-left : (reading : ℕ) → Ready ws s → All (λ y. y .applies ≡ false) (clearOwn 1 h f tag)
+    update-left : (reading : ℕ) → MayChange ws s → All (λ y. y .applies ≡ false) (clearOwn 1 h f tag)
         → Left (h .settings) (updateProgram (h .settings) (h .cursor) s tag reading) ws f
     update-left reading i (cons x₈ (cons x₁₀ (cons x₁₂ (cons x₁₃ nil)))) =
         let sound = i .stored .read .sound in

@@ -29,7 +29,7 @@ use Rattle.calls.specs.Refusals.{opens, acceptorCloses, anyOf, tagBlock, closes
 use Rattle.calls.specs.Refusals.{badPlace, badBlock, unsoundSet, unsoundClear}
 use Rattle.theory.specs.Timeline.{Timeline}
 use Rattle.theory.specs.Effects.{view, marksOf}
-use Rattle.theory.specs.Changing.{place-stands, open-block, StandsAt}
+use Rattle.theory.specs.Changing.{place-stands, open-block, PlaceStands}
 use Rattle.theory.specs.Rest.{Rest, headWith, copiesOf}
 
 -- ---- tests that are false
@@ -105,7 +105,7 @@ module _ {s : Settings} {log : Timeline} (c : Cursor) (f : Memory) (i : Rest s l
     abbrev k : ℕ
     k = slotOf s (f (Dir tag))
 
-    at-place : StandsAt s c f tag n k
+    at-place : PlaceStands s c f tag n k
     at-place = place-stands c f tag (i .full .state) d
 
     place-numbered : Numbered s n

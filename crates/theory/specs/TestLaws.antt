@@ -43,17 +43,17 @@ clash (cons e a) (later f r) = clash a r
 
 -- ---- two tables that decide alike: the second has the tests of the first, but for some that never apply. A later test need only be alike where the ones
 -- before it do not apply.
-pub data Alike : List Test → List Test → Type 0 where
-  same : Alike [] []
-  both : {x y : Test} {l m : List Test} → x .number ≡ y .number → x .applies ≡ y .applies → (y .applies ≡ false → Alike l m) → Alike (x ∷ l) (y ∷ m)
-  idle : {x : Test} {l m : List Test} → x .applies ≡ false → Alike l m → Alike (x ∷ l) m
+pub data TablesAlike : List Test → List Test → Type 0 where
+  same : TablesAlike [] []
+  both : {x y : Test} {l m : List Test} → x .number ≡ y .number → x .applies ≡ y .applies → (y .applies ≡ false → TablesAlike l m) → TablesAlike (x ∷ l) (y ∷ m)
+  idle : {x : Test} {l m : List Test} → x .applies ≡ false → TablesAlike l m → TablesAlike (x ∷ l) m
 
-pub alike-free : {l m : List Test} → Alike l m → All (λ x. x .applies ≡ false) l → All (λ x. x .applies ≡ false) m
+pub alike-free : {l m : List Test} → TablesAlike l m → All (λ x. x .applies ≡ false) l → All (λ x. x .applies ≡ false) m
 alike-free same nil = nil
 alike-free (both n e r) (cons f a) = let g = sym e ∙ f in cons g (alike-free (r g) a)
 alike-free (idle e r) (cons f a) = alike-free r a
 
-pub free-alike : {l m : List Test} → Alike l m → All (λ x. x .applies ≡ false) m → All (λ x. x .applies ≡ false) l
+pub free-alike : {l m : List Test} → TablesAlike l m → All (λ x. x .applies ≡ false) m → All (λ x. x .applies ≡ false) l
 free-alike same nil = nil
 free-alike (both n e r) (cons f a) = cons (e ∙ f) (free-alike (r f) a)
 free-alike (idle e r) a = cons e (free-alike r a)
@@ -61,7 +61,7 @@ free-alike (idle e r) a = cons e (free-alike r a)
 no : {A : Type 0} {b : Bool} → b ≡ true → b ≡ false → A
 no e f = absurd (let z : _≡_ {A = ℕ} 0 1 = cc in omega arith)
 
-pub alike-first : {l m : List Test} {n : ℕ} → Alike l m → First l n → First m n
+pub alike-first : {l m : List Test} {n : ℕ} → TablesAlike l m → First l n → First m n
 alike-first (both {x} {y} {l} {m} n e r) (here f) = subst (λ (k : ℕ). First (y ∷ m) k) (sym n) (here (sym e ∙ f))
 alike-first (both n e r) (later f q) = let g = sym e ∙ f in later g (alike-first (r g) q)
 alike-first (idle e r) (here f) = no f e

@@ -61,7 +61,7 @@ ownTests h words t rows list unsound =
     ∷ record { number = UNSOUND; applies = unsound } ∷ []
 
 -- none of them but the walk's applies, so that the store and both buffers are long enough
-pub record NoneApplies (h : Head) (words t rows list : ℕ) : Type 0 where
+pub record OwnNone (h : Head) (words t rows list : ℕ) : Type 0 where
   pub long : layoutLen (h .settings) ≤ words
   pub long-rows : rowLen * h .settings .tags ≤ rows
   pub long-list : h .settings .blocks ≤ list
@@ -71,4 +71,4 @@ pub record NoneApplies (h : Head) (words t rows list : ℕ) : Type 0 where
 pub data OwnRefusal (h : Head) (words t rows list : ℕ) : ℕ → Type 0 where
   turned : {n : ℕ} → ((unsound : Bool) → refusal (ownTests h words t rows list unsound) ≡ n) → (eqb n 0 || eqb n UNSOUND) ≡ false
       → OwnRefusal h words t rows list n
-  free : NoneApplies h words t rows list → OwnRefusal h words t rows list 0
+  free : OwnNone h words t rows list → OwnRefusal h words t rows list 0

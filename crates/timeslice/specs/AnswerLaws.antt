@@ -39,7 +39,7 @@ use Rattle.timeslice.specs.PathLaws.{path-short}
 use Rattle.timeslice.specs.VisitLaws.{short-found}
 use Rattle.timeslice.specs.Searching.{pathStart, searchedOf}
 use Rattle.timeslice.specs.SearchLaws.{search-few}
-use Rattle.timeslice.specs.Answer.{sliceOf, view, number, LookedBack, WalkSays, whole, broken, Answers, ownTests, NoneApplies, OwnRefusal, turned, free}
+use Rattle.timeslice.specs.Answer.{sliceOf, view, number, LookedBack, WalkSays, whole, broken, Answers, ownTests, OwnNone, OwnRefusal, turned, free}
 
 -- ---- the whole call, by its first refusal
 -- none but the walk's
@@ -92,19 +92,19 @@ own-refused {ws} {h} {t} {rows} {list} {n} read (turned q e) z = refused-is ws t
 own-refused read (free p) z = absurd (z refl)
 
 -- or none does,
-pub own-free : {h : Head} {words t rows list n : ℕ} → OwnRefusal h words t rows list n → n ≡ 0 → NoneApplies h words t rows list
+pub own-free : {h : Head} {words t rows list n : ℕ} → OwnRefusal h words t rows list n → n ≡ 0 → OwnNone h words t rows list
 own-free (turned q e) z = absurd (let y : true ≡ false = rw z at e in let x : _≡_ {A = ℕ} 0 1 = cc in omega arith)
 own-free (free p) z = p
 
 -- and the walk may run: its answer is the call's.
-pub read-ready : {ws : List ℕ} {h : Head} {t rows list : ℕ} → HeadRead ws h → NoneApplies h (length ws) t rows list → Readable ws h
+pub read-ready : {ws : List ℕ} {h : Head} {t rows list : ℕ} → HeadRead ws h → OwnNone h (length ws) t rows list → Readable ws h
 read-ready read p = record { is = read .is; sound = read .sound; held = fits-held (record { long = p .long }) (read .sound .within) }
 
-pub buffers-ready : {h : Head} {words t : ℕ} {rows list : List ℕ} → NoneApplies h words t (length rows) (length list) → Buffers (h .settings) rows list
+pub buffers-ready : {h : Head} {words t : ℕ} {rows list : List ℕ} → OwnNone h words t (length rows) (length list) → Buffers (h .settings) rows list
 buffers-ready p = record { long-rows = p .long-rows; long-list = p .long-list }
 
 pub own-passed : {ws : List ℕ} {h : Head} {t : ℕ} {rows list : List ℕ} {r : SliceAnswer} {rows′ list′ : List ℕ} → HeadRead ws h
-    → NoneApplies h (length ws) t (length rows) (length list) → Answers ws t rows list r rows′ list′ → LookedBack ws t rows list r rows′ list′
+    → OwnNone h (length ws) t (length rows) (length list) → Answers ws t rows list r rows′ list′ → LookedBack ws t rows list r rows′ list′
 own-passed {ws} {t = t} {rows} {list} read p a = seen-is ws t rows list (own-decide read t rows list ∙ p .left (isUnsound (lookAt ws t))) a
 
 -- ---- search and path

@@ -21,7 +21,7 @@ use Rattle.timeslice.specs.declared.rows.Took.{Took}
 use Rattle.timeslice.specs.declared.rows.Took.the-variants.{Rows, TooMany}
 use Rattle.timeslice.specs.declared.walk.Walked.{Walked}
 use Rattle.timeslice.specs.declared.walk.Walked.the-variants.{Done, Unsound}
-use Rattle.timeslice.specs.declared.walk.Step.{Step}
+use Rattle.timeslice.specs.declared.walk.PathBlock.{PathBlock}
 use Rattle.timeslice.specs.declared.walk.Climbed.{Climbed}
 use Rattle.timeslice.specs.declared.walk.Climbed.the-variants.{On, Unsound as NotOn}
 use Rattle.timeslice.specs.Taken.{Takes}
@@ -105,7 +105,7 @@ module _ {s : Settings} {t : ℕ} {R : Reader} {k : ℕ} {rows list : List ℕ} 
         rw (ne-eqb k 0 z, lt-leb k _ g) (told-stop (s .tags) rows list n (andThen v (path (s .block) t R f (upOf R k))) x))
 
     -- or its left neighbour is visited,
-    module _ {i : Step} {a : Walked} {rows₁ list₁ rows₂ list₂ : List ℕ}
+    module _ {i : PathBlock} {a : Walked} {rows₁ list₁ rows₂ list₂ : List ℕ}
         (visited : VisitTold s t R (i .up) k (i .next) rows₁ list₁ (i .counts) a rows₂ list₂) where
       -- which stops the path,
       visit-told : a ≡ Unsound → Climbs s t R rows list n k (On i) rows₁ list₁ → PathTold s t R k rows list n Unsound rows₂ list₂
@@ -135,7 +135,7 @@ pub begun : {s : Settings} {t : ℕ} {R : Reader} {k : ℕ} {rows list : List �
 begun r = record { room = r; same-rows = refl; same-list = refl; whole = λ c. c }
 
 -- one block is listed
-stepped : {s : Settings} {t : ℕ} {R : Reader} {k : ℕ} {n : Counts} {rows list rows₁ list₁ : List ℕ} {i : Step} → Climbs s t R rows list n k (On i) rows₁ list₁
+stepped : {s : Settings} {t : ℕ} {R : Reader} {k : ℕ} {n : Counts} {rows list rows₁ list₁ : List ℕ} {i : PathBlock} → Climbs s t R rows list n k (On i) rows₁ list₁
     → (i .counts .blocks ≡ n .blocks + 1) × (i .counts .rows ≤ s .tags) × (i .up < k)
 stepped {k = k} (on g y w x) =
     let (r, l, e, f) = told-found x in
@@ -162,7 +162,7 @@ module _ {s : Settings} {t : ℕ} {R : Reader} {k₀ : ℕ} {rows₀ list₀ : L
       pub path-stops : b ≡ NotOn → PathTold s t R k₀ rows₀ list₀ n₀ Unsound rows₁ list₁
       path-stops e = so-far .whole (stop-told z (rw e at climbed))
 
-      module _ {i : Step} (e : b ≡ On i) where
+      module _ {i : PathBlock} (e : b ≡ On i) where
         pub up-below : i .up < k
         up-below = stepped (rw e at climbed) .2
 

@@ -30,14 +30,14 @@ pub enum Entered {
 }
 
 // A path block: its up, its left neighbour, and what is counted with its rows.
-pub struct Step {
+pub struct PathBlock {
     pub up: u32,
     pub next: u32,
     pub counts: Counts,
 }
 
 pub enum Climbed {
-    On(Step),
+    On(PathBlock),
     Unsound,
 }
 
@@ -209,7 +209,7 @@ fn climb(
     let Took::Rows(given) = rows::take_rows(block, t, h.settings, rows, n.rows) else {
         return Climbed::Unsound;
     };
-    Climbed::On(Step {
+    Climbed::On(PathBlock {
         up,
         next: neighbour(store, h, number),
         counts: Counts {

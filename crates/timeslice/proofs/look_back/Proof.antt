@@ -4,7 +4,7 @@ use native.Mathlib.Omega.{arith}
 use lib.ListN.{length}
 use borrow.Author.Needs.{needs}
 use Rattle.layout.specs.HeadLaws.{HeadRead, head-read}
-use Rattle.timeslice.specs.Answer.{NoneApplies}
+use Rattle.timeslice.specs.Answer.{OwnNone}
 use Rattle.timeslice.specs.AnswerLaws.{head-refused, own-refused, own-free, own-passed, read-ready, buffers-ready}
 use Rattle.timeslice.proofs.look_back.Statement.{statement}
 use Rattle.timeslice.proofs.look_back.Tie as tie
@@ -25,7 +25,7 @@ returns c = own-refused (read (c .before .before)) (c .before .turned-away .ensu
 none : (c : tie.Else1)
     → let at-h = c .before .before .before in
     let a = at-h .before .before .before .before .before .before .args in
-    NoneApplies (at-h .h .given .0 .0) (length (a .store .now)) (a .second) (length (a .rows .now)) (length (a .list .now))
+    OwnNone (at-h .h .given .0 .0) (length (a .store .now)) (a .second) (length (a .rows .now)) (length (a .list .now))
 none c = own-free (c .before .turned-away .ensures) (c .if1 .left)
 
 answer-requires : tie.Need-answer-requires

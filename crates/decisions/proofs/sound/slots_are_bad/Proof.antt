@@ -4,12 +4,12 @@ use lib.ListN.{length}
 use borrow.Author.Needs.{needs}
 use Rattle.layout.specs.Standing.{slots, blockBits}
 use Rattle.decisions.specs.Ready.{wordsOf}
-use Rattle.decisions.specs.SoundLaws.{badSlot, Looked, look-begin, look-none, look-found, look-on, look-fewer}
+use Rattle.decisions.specs.SoundLaws.{badSlot, LookedAt, look-begin, look-none, look-found, look-on, look-fewer}
 use Rattle.decisions.proofs.sound.slots_are_bad.Statement.{statement}
 use Rattle.decisions.proofs.sound.slots_are_bad.Tie as tie
 
 abbrev Inv-loop : tie.InvT-loop
-Inv-loop store h n left₀ left = Looked (badSlot h (wordsOf h store) n) (blockBits (wordsOf h store) n) left
+Inv-loop store h n left₀ left = LookedAt (badSlot h (wordsOf h store) n) (blockBits (wordsOf h store) n) left
 
 abbrev μ-loop : tie.MeasureT-loop
 μ-loop store h n left₀ left = length (slots left)
