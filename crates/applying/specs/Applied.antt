@@ -6,8 +6,8 @@ use Rattle.calls.specs.Calls as calls
 use Rattle.calls.specs.Step.{step}
 use Rattle.changes.specs.declared.Change.{Change}
 use Rattle.changes.specs.declared.Change.the-variants as change
-use Rattle.timeslice.specs.declared.Looked.{Looked}
-use Rattle.timeslice.specs.declared.Looked.the-variants as looked
+use Rattle.timeslice.specs.declared.SliceAnswer.{SliceAnswer}
+use Rattle.timeslice.specs.declared.SliceAnswer.the-variants as slice
 use Rattle.timeslice.specs.Answer.{sliceOf}
 use Rattle.applying.specs.declared.call.Call.{Call}
 use Rattle.applying.specs.declared.call.Call.the-variants.{Start, Set, Clear, Update, Advance, LookBack}
@@ -47,6 +47,6 @@ abbrev pub changeAnswer : Change → Answer
 changeAnswer (change.Done h) = Done h
 changeAnswer (change.Refused n) = Refused n
 
-abbrev pub lookedAnswer : Looked → Answer
-lookedAnswer (looked.Answered s) = Shown s
-lookedAnswer (looked.Refused n) = Refused n
+abbrev pub sliceAnswer : SliceAnswer → Answer
+sliceAnswer (slice.Answered s) = Shown s
+sliceAnswer (slice.Refused n) = Refused n

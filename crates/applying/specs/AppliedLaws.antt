@@ -8,20 +8,20 @@ use Rattle.changes.specs.declared.Change.{Change}
 use Rattle.changes.specs.declared.Change.the-variants as change
 use Rattle.changes.specs.Replied.{Replied}
 use Rattle.changes.specs.Replied as replied
-use Rattle.timeslice.specs.declared.Looked.{Looked}
+use Rattle.timeslice.specs.declared.SliceAnswer.{SliceAnswer}
 use Rattle.timeslice.specs.Answer.{Says, view, number, LookedBack}
 use Rattle.applying.specs.declared.call.Call.{Call}
 use Rattle.applying.specs.declared.call.Call.the-variants.{LookBack}
 use Rattle.applying.specs.declared.call.Answer.{Answer}
 use Rattle.applying.specs.declared.call.Answer.the-variants.{Done, Shown, Refused}
-use Rattle.applying.specs.Applied.{answerOf, callOf, buffersAfter, changeAnswer, lookedAnswer, Applied}
+use Rattle.applying.specs.Applied.{answerOf, callOf, buffersAfter, changeAnswer, sliceAnswer, Applied}
 
 change-answer : (c : Change) → changeAnswer c ≡ answerOf (replied.answerOf c)
 change-answer (change.Done h) = refl
 change-answer (change.Refused n) = refl
 
 -- a look-back answers with a view or a refusal, never with a head
-looked-answer : {a : calls.Answer} {l : Looked} → Says a l → lookedAnswer l ≡ answerOf a
+looked-answer : {a : calls.Answer} {l : SliceAnswer} → Says a l → sliceAnswer l ≡ answerOf a
 looked-answer (view e) = ap Shown e
 looked-answer number = refl
 
@@ -37,7 +37,7 @@ module _ {ws rows list : List ℕ} {call : Call} {a : Answer} where
         buffers = kept (step ws (callOf known rows list) .lent);
       })
 
-  pub looked-applied : {t : ℕ} {l : Looked} {rows′ list′ : List ℕ} → call ≡ LookBack t → LookedBack ws t rows list l rows′ list′ → a ≡ lookedAnswer l
+  pub looked-applied : {t : ℕ} {l : SliceAnswer} {rows′ list′ : List ℕ} → call ≡ LookBack t → LookedBack ws t rows list l rows′ list′ → a ≡ sliceAnswer l
       → Applied ws call rows list a ws rows′ list′
   looked-applied {t} {l} {rows′} {list′} e b f =
       subst (λ (x : Call). Applied ws x rows list a ws rows′ list′) (sym e) (record {

@@ -2,10 +2,10 @@
 use changes::Change;
 use layout::head::Head;
 use layout::settings::Settings;
-use timeslice::Looked;
 use timeslice::Slice;
+use timeslice::SliceAnswer;
 ghost use mathlib.Core.Path.{_≡_};
-ghost use Rattle.applying.specs.Applied.{changeAnswer, lookedAnswer, Applied};
+ghost use Rattle.applying.specs.Applied.{changeAnswer, sliceAnswer, Applied};
 
 // The six calls. A look-back's two buffers are lent beside it.
 pub enum Call {
@@ -39,12 +39,12 @@ fn changed(c: Change) -> Answer
     }
 }
 
-fn shown(l: Looked) -> Answer
-    ensures { λ r. ⌜ r ≡ lookedAnswer l ⌝ }
+fn shown(l: SliceAnswer) -> Answer
+    ensures { λ r. ⌜ r ≡ sliceAnswer l ⌝ }
 {
     match l {
-        Looked::Answered(s) => Answer::Shown(s),
-        Looked::Refused(n) => Answer::Refused(n),
+        SliceAnswer::Answered(s) => Answer::Shown(s),
+        SliceAnswer::Refused(n) => Answer::Refused(n),
     }
 }
 

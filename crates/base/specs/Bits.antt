@@ -1,11 +1,12 @@
 -- One bit of a word, by its place: read, set, cleared, and what the others and the word's bound are then.
-use mathlib.Core.Path.{_≡_, refl, sym, ap}
+use mathlib.Core.Path.{_≡_, refl, sym, ap, _∙_, subst}
 use mathlib.Core.Logic.{_≢_}
 use mathlib.Core.Bool.{Bool, true, false, cond}
-use Prim.Native.Nat.{ℕ, zero, suc, _+_, _-_, _/_, _%_, _^_, _≤_, _<_}
+use Prim.Native.Nat.{ℕ, zero, suc, _+_, _*_, _-_, _/_, _%_, _^_, _≤_, _<_}
 use native.Mathlib.Omega.{arith}
 use native.Mathlib.Nat.{pow-suc, pow-succ', div-one, div-div-eq-div-mul}
 use lib.Dec.{eqb}
+use lib.Bits.{bitAnd, bitOr, or-add-and, and-high}
 use Rattle.base.specs.Branch.{by-eqb}
 
 -- Bit k of x, by halving.
@@ -117,3 +118,24 @@ without-other k j x d = without-all k x (λ y. bitAt j y ≡ bitAt j x) (bit-off
 
 pub without-below : (d k x : ℕ) → x < 2 ^ d → withoutBit k x < 2 ^ d
 without-below d k x h = without-all k x (λ y. y < 2 ^ d) (λ e. off-below d k x h) (λ e. h)
+
+-- ---- by the word's own operations
+bit-alone : (k x : ℕ) → bitAnd x (2 ^ k) ≡ bitAt k x * 2 ^ k
+bit-alone k x =
+    let s : 1 + k ≡ suc k = omega arith in
+    let p : 2 ^ (1 + k) ≡ 2 ^ suc k = ap (λ (n : ℕ). 2 ^ n) s in
+    let e : 2 ^ (1 + k) - 2 ^ k ≡ 2 ^ k = omega (arith, p, pow-suc 2 k) in
+    rw bit-shift (subst (λ (m : ℕ). bitAnd x m ≡ x / 2 ^ k % 2 ^ 1 * 2 ^ k) e (and-high x 1 k))
+
+bit-taken : (k x b : ℕ) → bitAt k x ≡ b → bitAnd x (2 ^ k) ≡ b * 2 ^ k
+bit-taken k x b e = bit-alone k x ∙ ap (λ (n : ℕ). n * 2 ^ k) e
+
+pub or-bit : (k x : ℕ) → bitOr x (2 ^ k) ≡ withBit k x
+or-bit k x = with-all k x (λ y. bitOr x (2 ^ k) ≡ y)
+    (λ e. omega (arith, or-add-and x (2 ^ k), bit-taken k x 1 e))
+    (λ e. omega (arith, or-add-and x (2 ^ k), bit-taken k x 0 e))
+
+pub less-bit : (k x : ℕ) → x - bitAnd x (2 ^ k) ≡ withoutBit k x
+less-bit k x = without-all k x (λ y. x - bitAnd x (2 ^ k) ≡ y)
+    (λ e. omega (arith, bit-taken k x 1 e))
+    (λ e. omega (arith, bit-taken k x 0 e))

@@ -1,7 +1,7 @@
 pub mod Branch
 pub mod Sums
 pub mod Bits
-pub mod Places
+pub mod Ones
 pub mod Slots
 pub mod Pigeonhole
 pub mod SameRows

@@ -7,7 +7,7 @@ use native.Mathlib.Nat.{zero-add}
 use lib.ListN.{length, length-append}
 use lib.Count.{trailingZeros, ones}
 use Rattle.base.specs.Bits.{bitAt}
-use Rattle.base.specs.Places.{bitsFrom, lowerOff, bits-zero, bits-next, bits-length, Lists, lists-append, bits-list}
+use Rattle.base.specs.Ones.{bitsFrom, lowerOff, bits-zero, bits-next, bits-length, Lists, lists-append, bits-list}
 
 -- Bit k of the words w 0, w 1, ..
 abbrev pub bitOf : (ℕ → ℕ) → ℕ → ℕ

@@ -118,32 +118,32 @@ upto-none w a (suc b) h z = lt? b a
 
 -- ---- from 1 to n
 
-unfoldable pub over : ℕ → (ℕ → ℕ) → ℕ
-over zero w = 0
-over (suc n) w = over n w + w (suc n)
+unfoldable pub sumTo : ℕ → (ℕ → ℕ) → ℕ
+sumTo zero w = 0
+sumTo (suc n) w = sumTo n w + w (suc n)
 
-pub over-upto : (w : ℕ → ℕ) (n : ℕ) → over n w + upto w 1 ≡ upto w (suc n)
-unfolding over
-over-upto w zero = omega arith
-over-upto w (suc n) = omega (arith, over-upto w n, upto-suc w (suc n))
+pub sumTo-upto : (w : ℕ → ℕ) (n : ℕ) → sumTo n w + upto w 1 ≡ upto w (suc n)
+unfolding sumTo
+sumTo-upto w zero = omega arith
+sumTo-upto w (suc n) = omega (arith, sumTo-upto w n, upto-suc w (suc n))
 
 -- Weights that are equal from 1 to n have equal sums.
-pub over-same : (v w : ℕ → ℕ) (n : ℕ) → ((m : ℕ) → 0 < m → m ≤ n → v m ≡ w m) → over n v ≡ over n w
-unfolding over
-over-same v w zero h = refl
-over-same v w (suc n) h =
-    omega (arith, over-same v w n (λ m p q. h m p (omega arith)), h (suc n) (omega arith) (omega arith))
+pub sumTo-same : (v w : ℕ → ℕ) (n : ℕ) → ((m : ℕ) → 0 < m → m ≤ n → v m ≡ w m) → sumTo n v ≡ sumTo n w
+unfolding sumTo
+sumTo-same v w zero h = refl
+sumTo-same v w (suc n) h =
+    omega (arith, sumTo-same v w n (λ m p q. h m p (omega arith)), h (suc n) (omega arith) (omega arith))
 
 -- A weight that is 0 beyond k adds nothing there.
-pub over-none : (w : ℕ → ℕ) (k n : ℕ) → k ≤ n → ((m : ℕ) → k < m → m ≤ n → w m ≡ 0) → over k w ≡ over n w
-over-none w k n h z =
+pub sumTo-none : (w : ℕ → ℕ) (k n : ℕ) → k ≤ n → ((m : ℕ) → k < m → m ≤ n → w m ≡ 0) → sumTo k w ≡ sumTo n w
+sumTo-none w k n h z =
     let e = upto-none w (suc k) (suc n) (omega arith) (λ m i j. z m i (omega arith)) in
-    omega (arith, over-upto w k, over-upto w n)
+    omega (arith, sumTo-upto w k, sumTo-upto w n)
 
 -- Where each weight w is at least q times v, so is the sum.
-pub over-times : (q : ℕ) (v w : ℕ → ℕ) (n : ℕ) → ((m : ℕ) → 0 < m → m ≤ n → v m * q ≤ w m) → over n v * q ≤ over n w
-unfolding over
-over-times q v w zero h = simp zero-mul (omega arith)
-over-times q v w (suc n) h =
-    let r = over-times q v w n (λ m i j. h m i (omega arith)) in
+pub sumTo-times : (q : ℕ) (v w : ℕ → ℕ) (n : ℕ) → ((m : ℕ) → 0 < m → m ≤ n → v m * q ≤ w m) → sumTo n v * q ≤ sumTo n w
+unfolding sumTo
+sumTo-times q v w zero h = simp zero-mul (omega arith)
+sumTo-times q v w (suc n) h =
+    let r = sumTo-times q v w n (λ m i j. h m i (omega arith)) in
     simp add-mul (omega (arith, h (suc n) (omega arith) (omega arith)))

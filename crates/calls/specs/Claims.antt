@@ -1,4 +1,5 @@
 -- THE CLAIMS (demands 1 to 3): what is said of the definitions, before anything of it is proved. Each sentence is a named field.
+-- (UNSOUND is refusal 12, OUT-OF-BLOCKS 13; sumTo n w is w 1 + .. + w n.)
 use mathlib.Core.Path.{_≡_}
 use mathlib.Core.Logic.{_≢_, _↔_}
 use mathlib.Core.Bool.{Bool, true, false, cond, not, _&&_, _||_}
@@ -7,7 +8,7 @@ use Prim.Native.Nat.{ℕ, _+_, _*_, _-_, _^_, _≤_, _<_}
 use lib.Dec.{eqb, ltb}
 use lib.Count.{ones}
 use lib.ListN.{length, getD, take}
-use Rattle.base.specs.Sums.{All, is, over}
+use Rattle.base.specs.Sums.{All, is, sumTo}
 use Rattle.layout.specs.declared.settings.Settings.{Settings}
 use Rattle.layout.specs.declared.head.Cursor.{Cursor}
 use Rattle.layout.specs.declared.head.Head.{Head}
@@ -16,14 +17,15 @@ use Rattle.layout.specs.declared.address.Address.the-variants.{Dir, Field, Slot
 use Rattle.layout.specs.Sizes.{OPEN, headLen, rowLen}
 use Rattle.layout.specs.Fields.{openedWord, closedWord, tagWord, fromWord, toWord}
 use Rattle.layout.specs.Memory.{Memory}
+use Rattle.layout.specs.RefusalNumbers.{UNSOUND, OUT-OF-BLOCKS}
 use Rattle.layout.specs.Program.{runOn}
 use Rattle.layout.specs.Head.{headOf, placed}
-use Rattle.layout.specs.Standing.{slots, stands}
+use Rattle.layout.specs.Standing.{slots, stands, blockBits}
 use Rattle.layout.specs.Parts.{blockPart, levelPart, pagePart, slotWord}
 use Rattle.calls.specs.Calls.{Query, LookBack, buffersOf, Call, Start, Set, Clear, Update, Advance, Ask, View, Answer, Done, Shown, Refused, accepted}
 use Rattle.calls.specs.Placing.{placeOf, setProgram, clearProgram, updateProgram, advanceProgram}
 use Rattle.calls.specs.Walk.{Pass, looked, rowOf}
-use Rattle.calls.specs.Refusals.{Test, opens, acceptorCloses, bitsOf, tagBlock, closes, copies, afterClear}
+use Rattle.calls.specs.Refusals.{Test, opens, acceptorCloses, tagBlock, closes, copies, afterClear}
 use Rattle.calls.specs.LookBack.{lookAt, viewOf, rowWords, written, zeros}
 use Rattle.calls.specs.Step.{step, testsOf, wordsRead}
 use Rattle.calls.specs.Book.{Book, recordsIn, openings, closings, openAt}
@@ -50,13 +52,13 @@ zeroed l = map zeros l
 
 -- ---- ONE CHANGE opens at most one block and closes at most two
 -- every call but a start
-abbrev pub Change : Call → Type 0
-Change (Start s) = ⊥
-Change (Set s tag reading) = Unit {0}
-Change (Clear s tag) = Unit {0}
-Change (Update s tag reading) = Unit {0}
-Change (Advance s) = Unit {0}
-Change (Ask q) = Unit {0}
+abbrev pub NotStart : Call → Type 0
+NotStart (Start s) = ⊥
+NotStart (Set s tag reading) = Unit {0}
+NotStart (Clear s tag) = Unit {0}
+NotStart (Update s tag reading) = Unit {0}
+NotStart (Advance s) = Unit {0}
+NotStart (Ask q) = Unit {0}
 
 -- 1 for a block that is closed after the change and was open before it, or was not there
 abbrev pub closing : List ℕ → List ℕ → ℕ → ℕ
@@ -67,12 +69,12 @@ closing ws ws′ n =
 pub record Small (ws ws′ : List ℕ) : Type 0 where
   pub opens : headOf ws′ .cursor .opened ≤ headOf ws .cursor .opened + 1
   pub keeps : headOf ws .cursor .opened ≤ headOf ws′ .cursor .opened
-  pub closes : over (headOf ws′ .cursor .opened) (closing ws ws′) ≤ 2
+  pub closes : sumTo (headOf ws′ .cursor .opened) (closing ws ws′) ≤ 2
 
 -- ---- WHAT THE TESTS FORETELL, THE CHANGE DOES. Refusals 12 and 13 speak of a block that the change would open and of blocks that it will close. Where no
 -- refusal but 13 applies, its program, run on the memory that the words are (there block N + 1 has words, also where N = B), does just that.
 abbrev pub AllBut13 : List Test → Type 0
-AllBut13 l = All (λ x. x .number ≢ 13 → x .applies ≡ false) l
+AllBut13 l = All (λ x. x .number ≢ OUT-OF-BLOCKS → x .applies ≡ false) l
 
 -- with so many incoming records, and with the blocks that will close
 pub record Foretold (h : Head) (f : Memory) (now incoming : ℕ) (willClose : ℕ → Bool) (left : Cursor × Memory) : Type 0 where
@@ -87,7 +89,7 @@ pub record Foretold (h : Head) (f : Memory) (now incoming : ℕ) (willClose : �
 module _ (h : Head) (f : Memory) where
   -- by a set the old acceptor
   abbrev pub setCloses : ℕ → Bool
-  setCloses n = eqb n (h .cursor .opened) && acceptorCloses h (bitsOf h f (h .cursor .opened)) 1
+  setCloses n = eqb n (h .cursor .opened) && acceptorCloses h (blockBits f (h .cursor .opened)) 1
 
   abbrev pub incomingClear : ℕ → ℕ → ℕ
   incomingClear more tag = copies h f (tagBlock h f tag) + more
@@ -132,9 +134,9 @@ pub record EveryCall (ws : List ℕ) (c : Call) : Type 0 where
   pub refused-first : (n : ℕ) → step ws c .answer ≡ Refused n → First (testsOf ws c) n
   -- all words are then as before
   pub store-kept : (n : ℕ) → step ws c .answer ≡ Refused n → step ws c .store ≡ ws
-  pub buffers-kept : (n : ℕ) → step ws c .answer ≡ Refused n → n ≢ 12 → step ws c .lent ≡ lentBy c
+  pub buffers-kept : (n : ℕ) → step ws c .answer ≡ Refused n → n ≢ UNSOUND → step ws c .lent ≡ lentBy c
   -- except that refusal 12 of a look-back fills both its buffers with zeros
-  pub buffers-zero : step ws c .answer ≡ Refused 12 → step ws c .lent ≡ zeroed (lentBy c)
+  pub buffers-zero : step ws c .answer ≡ Refused UNSOUND → step ws c .lent ≡ zeroed (lentBy c)
   -- a query is answered with no head, and any other call with no view: an accepted change hands back the next head
   pub head-or-view : KindOf c (step ws c .answer)
   -- the head that is handed back is the head of the words left
@@ -142,7 +144,7 @@ pub record EveryCall (ws : List ℕ) (c : Call) : Type 0 where
   -- what the tests foretell
   pub foretold : AllBut13 (testsOf ws c) → ForetoldOf (headOf ws) (wordsRead ws) c
   -- one change opens at most one block and closes at most two
-  pub small : Change c → Small ws (step ws c .store)
+  pub small : NotStart c → Small ws (step ws c .store)
   -- lent words keep their number
   pub same-lengths : (length (step ws c .store) ≡ length ws) × (map length (step ws c .lent) ≡ map length (lentBy c))
   -- a query only reads the store
@@ -229,7 +231,7 @@ pub record StandsAt (ws : List ℕ) (tag n k : ℕ) : Type 0 where
 pub record Means (ws : List ℕ) (a : Account) : Type 0 where
   -- "Standing bit k is 1 while slot k is unended"
   pub bits : (n k : ℕ) → 1 ≤ n → n ≤ headOf ws .cursor .opened → k < headOf ws .settings .block
-      → (stands (bitsOf (headOf ws) (wordsRead ws) n) k ≡ true) ↔ (wordsRead ws (Slot n k toWord) ≡ OPEN)
+      → (stands (blockBits (wordsRead ws) n) k ≡ true) ↔ (wordsRead ws (Slot n k toWord) ≡ OPEN)
   -- "Directory, D words: 0, or the place of the tag's standing record"
   pub directory-none : (tag : ℕ) → tag < a .settings .tags → (wordsRead ws (Dir tag) ≡ 0) ↔ (among tag (soFar (a .log)) ≡ false)
   pub directory-place : (tag : ℕ) → tag < a .settings .tags → wordsRead ws (Dir tag) ≢ 0
@@ -245,7 +247,7 @@ pub record Holds (ws : List ℕ) (a : Account) : Type 0 where
   -- records placed × (b − q + 1) is at most b × the accepted sets and new readings
   pub bound : placed (headOf ws) * (a .book .b - a .book .q + 1) ≤ a .book .b * a .sets
   -- refusal 12 never comes
-  pub never-unsound : (c : Call) → step ws c .answer ≢ Refused 12
+  pub never-unsound : (c : Call) → step ws c .answer ≢ Refused UNSOUND
   -- a call is accepted if and only if none of the refusals applies that the account foretells, and else the first that does is given
   pub accepted-iff : (c : Call) → (accepted (step ws c .answer) ≡ true) ↔ All (λ x. x .applies ≡ false) (accountTests (length ws) a c)
   pub refused-first : (c : Call) (n : ℕ) → step ws c .answer ≡ Refused n → First (accountTests (length ws) a c) n
@@ -272,7 +274,7 @@ pub record WholeList (ws : List ℕ) (s : Settings) (calls : List Call) : Type 0
 pub record Demand2 (ws : List ℕ) (s : Settings) (calls : List Call) : Type 0 where
   pub accepted-iff : (words : List ℕ) (c : Call) → (accepted (step words c .answer) ≡ true) ↔ All (λ x. x .applies ≡ false) (testsOf words c)
   pub never-unsound : accepted (step ws (Start s) .answer) ≡ true
-      → (c : Call) → step (wordsAfter (step ws (Start s) .store) calls) c .answer ≢ Refused 12
+      → (c : Call) → step (wordsAfter (step ws (Start s) .store) calls) c .answer ≢ Refused UNSOUND
   pub log : accepted (step ws (Start s) .answer) ≡ true → (t : ℕ) (rows list : List ℕ) (v : View)
       → let fresh = step ws (Start s) .store in
       step (wordsAfter fresh calls) (Ask (LookBack t rows list)) .answer ≡ Shown v

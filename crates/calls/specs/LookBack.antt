@@ -5,6 +5,7 @@ use Prim.Native.Nat.{ℕ}
 use lib.Dec.{eqb}
 use lib.ListN.{length, drop, replicate}
 use Rattle.layout.specs.Sizes.{OPEN}
+use Rattle.layout.specs.RefusalNumbers.{UNSOUND}
 use Rattle.layout.specs.Head.{headOf}
 use Rattle.layout.specs.Parts.{blockPart, levelPart, pagePart}
 use Rattle.calls.specs.Calls.{Row, View, Answer, Shown, Refused}
@@ -58,11 +59,11 @@ pub record SliceReply : Type 0 where
 
 -- what the walk found, in the buffers; where it is unsound, refusal 12 fills both with zeros
 abbrev pub seen : List ℕ → List ℕ → Looked → SliceReply
-seen rows list unsoundly = record { answer = Refused 12; rows = zeros rows; list = zeros list }
+seen rows list unsoundly = record { answer = Refused UNSOUND; rows = zeros rows; list = zeros list }
 seen rows list (looked r l ps) = record { answer = Shown (viewOf r l ps); rows = written (rowWords r) rows; list = written l list }
 
 unfoldable pub lookBack : List ℕ → ℕ → List ℕ → List ℕ → SliceReply
 lookBack ws t rows list =
     let walked = lookAt ws t in
     let n = refusal (lookBackTests ws t (length rows) (length list) (isUnsound walked)) in
-    cond (eqb n 0 || eqb n 12) (seen rows list walked) (record { answer = Refused n; rows = rows; list = list })
+    cond (eqb n 0 || eqb n UNSOUND) (seen rows list walked) (record { answer = Refused n; rows = rows; list = list })

@@ -15,7 +15,7 @@ use Rattle.layout.specs.Memory.{Memory}
 use Rattle.layout.specs.RefusalNumbers.{SETTINGS, SHORT-HEAD, HEAD, SHORT-STORE, TIME-OPEN, EARLY, LATE, TAG, STANDING, NOT-STANDING, SHORT-BUFFER, UNSOUND, OUT-OF-BLOCKS}
 use Rattle.layout.specs.Settings.{inLimits}
 use Rattle.layout.specs.Head.{headOf, badHead, placed}
-use Rattle.layout.specs.Standing.{slots, stands, raised, lowered}
+use Rattle.layout.specs.Standing.{blockBits, slots, stands, raised, lowered}
 use Rattle.calls.specs.Placing.{blockOf, slotOf}
 
 pub record Test : Type 0 where
@@ -48,16 +48,12 @@ anyOf p [] = false
 anyOf p (k ∷ l) = p k || anyOf p l
 
 module _ (h : Head) (f : Memory) where
-  -- the standing bits of block n
-  abbrev pub bitsOf : ℕ → Standing
-  bitsOf n = record { low = f (Bits n 0); high = f (Bits n 1) }
-
   -- A clear ends a standing record of its tag's block. That block closes if it is not the acceptor and fewer than q remain; these are its copies.
   abbrev pub tagBlock : ℕ → ℕ
   tagBlock tag = blockOf (h .settings) (f (Dir tag))
 
   abbrev pub remaining : ℕ → ℕ
-  remaining n = length (slots (bitsOf n)) - 1
+  remaining n = length (slots (blockBits f n)) - 1
 
   abbrev pub closes : ℕ → Bool
   closes n = not (eqb n (h .cursor .opened)) && ltb (remaining n) (h .settings .useful)
@@ -68,7 +64,7 @@ module _ (h : Head) (f : Memory) where
   -- the acceptor's standing bits, with the tag's record ended if it lies there
   abbrev pub afterClear : ℕ → Standing
   afterClear tag =
-      let b = bitsOf (h .cursor .opened) in
+      let b = blockBits f (h .cursor .opened) in
       cond (eqb (tagBlock tag) (h .cursor .opened)) (lowered b (slotOf (h .settings) (f (Dir tag)))) b
 
   -- ---- refusal 12 of a change
@@ -78,7 +74,7 @@ module _ (h : Head) (f : Memory) where
       let p = f (Dir tag) in
       let n = blockOf (h .settings) p in
       let k = slotOf (h .settings) p in
-      ltb (placed h) p || not (eqb (f (Slot n k tagWord)) tag) || not (stands (bitsOf n) k)
+      ltb (placed h) p || not (eqb (f (Slot n k tagWord)) tag) || not (stands (blockBits f n) k)
 
   -- of a block that will close: an up not below it, a right (unless it is the acceptor) not above it and up to N, a standing bit at b or
   -- higher, a standing tag of D or more
@@ -87,10 +83,10 @@ module _ (h : Head) (f : Memory) where
       let right = f (Field n rightWord) in
       leb n (f (Field n upWord))
       || (not (eqb n (h .cursor .opened)) && not (ltb n right && leb right (h .cursor .opened)))
-      || anyOf (λ k. leb (h .settings .block) k || leb (h .settings .tags) (f (Slot n k tagWord))) (slots (bitsOf n))
+      || anyOf (λ k. leb (h .settings .block) k || leb (h .settings .tags) (f (Slot n k tagWord))) (slots (blockBits f n))
 
   unfoldable pub unsoundSet : Bool
-  unsoundSet = acceptorCloses h (bitsOf (h .cursor .opened)) 1 && badBlock (h .cursor .opened)
+  unsoundSet = acceptorCloses h (blockBits f (h .cursor .opened)) 1 && badBlock (h .cursor .opened)
 
   -- a clear (more = 0) or a new reading (more = 1)
   unfoldable pub unsoundClear : ℕ → ℕ → Bool

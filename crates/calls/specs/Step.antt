@@ -9,7 +9,7 @@ use Rattle.layout.specs.declared.head.Cursor.{Cursor}
 use Rattle.layout.specs.declared.head.Head.{Head}
 use Rattle.layout.specs.Memory.{Memory}
 use Rattle.layout.specs.Program.{Prog, run}
-use Rattle.layout.specs.Head.{headOf, withHead, cleared}
+use Rattle.layout.specs.Head.{freshHead, headOf, withHead, cleared}
 use Rattle.layout.specs.OnWords.{over}
 use Rattle.calls.specs.Calls.{Query, LookBack, Call, Start, Set, Clear, Update, Advance, Ask, Answer, Done, Refused, Reply}
 use Rattle.calls.specs.Placing.{setProgram, clearProgram, updateProgram, advanceProgram}
@@ -24,9 +24,6 @@ reply tests ws answer after =
     (record { answer = Refused (refusal tests); store = ws; lent = [] })
 
 -- ---- start: the layout filled with zeros, then the head
-abbrev pub freshHead : Settings → Head
-freshHead s = record { settings = s; cursor = record { opened = 0; clock = 0; fill = 0; child = 0; right = 0 } }
-
 unfoldable pub start : List ℕ → Settings → Reply
 start ws s = reply (startTests s ws) ws (Done (freshHead s)) (withHead (freshHead s) (cleared s ws))
 

@@ -9,7 +9,7 @@ use native.Mathlib.Omega.{arith}
 use lib.Dec.{lit≤}
 use borrow.Author.Tests.{ne-eqb}
 use Rattle.base.specs.Bits.{bitAt, withBit, withoutBit}
-use Rattle.base.specs.Places.{bitsFrom}
+use Rattle.base.specs.Ones.{bitsFrom}
 use Rattle.base.specs.Slots.{slotsOf}
 use Rattle.layout.specs.Sizes.{blockLen, layoutLen}
 use Rattle.layout.specs.Program.{each}

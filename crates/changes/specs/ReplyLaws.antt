@@ -9,14 +9,14 @@ use Rattle.layout.specs.declared.settings.Settings.{Settings}
 use Rattle.layout.specs.declared.head.Cursor.{Cursor}
 use Rattle.layout.specs.declared.head.Head.{Head}
 use Rattle.layout.specs.Program.{Prog, run}
-use Rattle.layout.specs.Head.{onward, headOf, withHead, cleared}
+use Rattle.layout.specs.Head.{onward, headOf, withHead, cleared, freshHead}
 use Rattle.layout.specs.OnWords.{over}
 use Rattle.layout.specs.Moved.{Moved, next-head}
 use Rattle.layout.specs.Able.{Able}
 use Rattle.calls.specs.Calls as calls
 use Rattle.calls.specs.Placing.{setProgram, clearProgram, updateProgram, advanceProgram}
 use Rattle.calls.specs.Refusals.{Test, refusal, startTests, timeTests, setTests, clearTests}
-use Rattle.calls.specs.Step.{reply, change, freshHead, start, wordsRead}
+use Rattle.calls.specs.Step.{reply, change, start, wordsRead}
 use Rattle.placing.specs.Steps.{Listed, clearingProgram}
 use Rattle.safety.specs.CallSafe.{advance-over, set-over, clear-over, update-over, held-able}
 use Rattle.decisions.specs.declared.Verdict.the-variants as verdict

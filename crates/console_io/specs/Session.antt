@@ -8,8 +8,7 @@ use lib.IntN.{ℤ}
 use lib.ListN.{length, take}
 use Rattle.io.specs.Counts.{clamped}
 use Rattle.console_run.specs.Console.{joined, consoleOutput}
-use Rattle.console_run.specs.Feed.{State, state, fed, fedAll, stepLines, fedLines}
-use Rattle.console_run.specs.FeedLaws.{afterByte}
+use Rattle.console_run.specs.Feed.{countMost, State, state, afterByte, fed, fedAll, stepLines, fedLines}
 use Rattle.console_io.specs.declared.sink.Sink.{Sink}
 use Rattle.console_io.specs.declared.Session.{Session}
 use Rattle.console_io.specs.declared.Part.{Part}
@@ -60,4 +59,4 @@ pub record Ran (before after : Sink) : Type 0 where
   pub input : List ℕ
   pub lines : List (List ℕ)
   pub sent : Sent before lines after
-  pub output : 1 + length input < 18446744073709551615 → joined lines ≡ consoleOutput input
+  pub output : 1 + length input < countMost → joined lines ≡ consoleOutput input

@@ -9,14 +9,15 @@ use lib.IntN.{ℤ}
 use lib.ListN.{length, getD, take, drop, replicate, drop-of-length-le}
 use lib.Seq.{drop-cons}
 use Rattle.io.specs.Counts.{clamped}
+use Rattle.console_text.specs.Lines.{lineMost}
 use Rattle.console_text.specs.Output.{outputNames}
 use Rattle.console_run.specs.declared.feed.Console.{Console}
 use Rattle.console_run.specs.declared.feed.Step.{Step}
 use Rattle.console_run.specs.declared.turn.Said.{Said}
-use Rattle.console_run.specs.Console.{Lent, saidLines, missing, blank}
-use Rattle.console_run.specs.Feed.{stepped, begun, fed, lastTaken, isOver, State, state, finishLines, runLines}
-use Rattle.console_run.specs.FeedLaws.{all-none, all-over, all-more, in-chunks}
-use Rattle.console_run.specs.SaidLaws.{lines-none, lines-over, lines-more, lines-in-chunks, run-output}
+use Rattle.console_run.specs.Console.{Lent, saidLines, missing, storeLen, rowsLen, listLen, blank}
+use Rattle.console_run.specs.Feed.{stepped, begun, fed, lastTaken, isOver, State, stateOf, state, finishLines, runLines}
+use Rattle.console_run.specs.FeedLaws.{all-none, all-over, all-more, in-chunks, lines-none, lines-over, lines-more, prints-output}
+use Rattle.console_run.specs.SaidLaws.{lines-in-chunks}
 use Rattle.console_io.specs.declared.sink.Sink.{Sink}
 use Rattle.console_io.specs.declared.Session.{Session}
 use Rattle.console_io.specs.declared.Part.{Part}
@@ -114,11 +115,12 @@ finished c line words e s f t = rw (← e) (sent-on s (rw f at t))
 -- The names line, the bytes read, and the end of the input.
 pub ran : {a b c d : Sink} {console : Console} {line store rows list : List ℕ} {t : State} → Emitted outputNames a b
     → ReadAll (record { state = state console line store rows list; sink = b }) (record { state = t; sink = c }) → Sent c (finishLines t) d
-    → console ≡ begun → length line ≡ 80 → store ≡ replicate 16000 0 → rows ≡ replicate 8192 0 → list ≡ replicate 4096 0 → Ran a d
+    → console ≡ begun → length line ≡ lineMost → store ≡ replicate storeLen 0 → rows ≡ replicate rowsLen 0
+    → list ≡ replicate listLen 0 → Ran a d
 unfolding runLines blank
 ran {line} n r f e h s w l = record {
   input = r .input;
-  lines = outputNames ∷ runLines (state begun line (replicate 16000 0) (replicate 8192 0) (replicate 4096 0)) (r .input);
+  lines = outputNames ∷ runLines (stateOf begun line blank) (r .input);
   sent = next n (sent-on (rw (e, s, w, l) at (r .fed .sent)) (rw (r .fed .reached, e, s, w, l) at f));
-  output = run-output (r .input) line h;
+  output = prints-output (r .input) line h;
 }

@@ -56,11 +56,11 @@ module _ {a : Sink} where
   differs-uncompared {fd} {n} e = rw e (uncompared fd n)
 
 -- What is printed into a buffer with room is the line.
-pub printed-line : {text before after : List ℕ} {r : ℕ} → Printed text before r after → length before ≡ 64 → take r after ≡ text
-unfolding printedLen printedBytes lineRoom
+pub printed-line : {text before after : List ℕ} {r : ℕ} → Printed text before r after → length before ≡ lineRoom → take r after ≡ text
+unfolding printedLen printedBytes
 printed-line {text} {before} {after} {r} p e =
-    let f : 64 ≤ length before = omega arith in
-    rw (p .count, p .buffer, le-ltb (length before) 64 f) (take-append-seam text (drop (length text) before))
+    let f : lineRoom ≤ length before = omega arith in
+    rw (p .count, p .buffer, le-ltb (length before) lineRoom f) (take-append-seam text (drop (length text) before))
 
 -- Some lines, then others.
 pub sent-on : {a b c : Sink} {l m : List (List ℕ)} → Sent a l b → Sent b m c → Sent a (l ++ m) c

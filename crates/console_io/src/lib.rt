@@ -25,7 +25,9 @@ const STORE: usize = 16000;
 
 const LIST: usize = 4096;
 
-const ROWS: usize = print::ROW_LEN * LIST;
+const TAGS: usize = 4096;
+
+const ROWS: usize = print::ROW_LEN * TAGS;
 
 // A run so far.
 struct Session {

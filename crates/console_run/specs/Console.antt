@@ -5,6 +5,7 @@ use mathlib.Core.List.{List, [], _∷_, _++_}
 use Prim.Native.Nat.{ℕ, zero, suc, _+_, _*_}
 use lib.Dec.{eqb}
 use lib.ListN.{getD, replicate}
+use Rattle.layout.specs.Sizes.{rowLen}
 use Rattle.layout.specs.Settings.{settingsOf}
 use Rattle.calls.specs.Step.{step}
 use Rattle.applying.specs.declared.call.Call.{Call}
@@ -24,8 +25,8 @@ use Rattle.console_run.specs.declared.turn.Stage.the-variants.{SettingsN
 use Rattle.console_run.specs.declared.turn.Said.{Said}
 use Rattle.console_run.specs.declared.turn.Said.the-variants.{Nothing, Bad, No, Slice}
 use Rattle.console_run.specs.declared.turn.Turn.{Turn}
-use Rattle.console_run.specs.declared.turn.Asked.{Asked}
-use Rattle.console_run.specs.declared.turn.Asked.the-variants as asked
+use Rattle.console_run.specs.declared.turn.LineAsks.{LineAsks}
+use Rattle.console_run.specs.declared.turn.LineAsks.the-variants as asked
 
 -- ---- what a line does
 
@@ -89,7 +90,7 @@ settingsDo (settings.Values b q blocks tags) words = called ChangeNames Over 0 (
 settingsDo settings.Bad words = only (badAt Settings) words
 
 -- "Signs: + set, - clear, = new reading, . clock, ? look back"
-abbrev pub askedOf : Line → Asked
+abbrev pub askedOf : Line → LineAsks
 askedOf (change.Set time tag reading) = asked.Call time (call.Set time tag reading)
 askedOf (change.Clear time tag) = asked.Call time (call.Clear time tag)
 askedOf (change.Update time tag reading) = asked.Call time (call.Update time tag reading)
@@ -97,7 +98,7 @@ askedOf (change.Advance time) = asked.Call time (call.Advance time)
 askedOf (change.LookBack time) = asked.Call time (call.LookBack time)
 askedOf change.Bad = asked.Bad
 
-unfoldable pub changeDo : Asked → Lent → Does
+unfoldable pub changeDo : LineAsks → Lent → Does
 changeDo (asked.Call time call) words = called Changes Changes time call words
 changeDo asked.Bad words = only (badAt Changes) words
 
@@ -116,7 +117,7 @@ lineDoes stage tooLong words = only (badAt stage) words
 
 -- The i-th row, counted from 0: its tag and its reading stand in the row buffer.
 abbrev pub rowLineAt : ℕ → List ℕ → ℕ → List ℕ
-rowLineAt time rows i = rowLine time (getD rows (2 * i) 0) (getD rows (2 * i + 1) 0)
+rowLineAt time rows i = rowLine time (getD rows (rowLen * i) 0) (getD rows (rowLen * i + 1) 0)
 
 -- n rows, from the i-th on
 unfoldable pub rowLines : ℕ → List ℕ → ℕ → ℕ → List (List ℕ)
@@ -155,8 +156,20 @@ consoleFrom stage words number (text ∷ more) =
     saidBytes (d .turn .said) number (d .lent .rows) ++ consoleFrom (d .turn .next) (d .lent) (suc number) more
 
 -- "The store has 16,000 words." The buffers hold what the largest settings ask for: 2 × 4,096 row words and 4,096 block numbers.
+abbrev pub storeLen : ℕ
+storeLen = 16000
+
+abbrev pub listLen : ℕ
+listLen = 4096
+
+abbrev pub tagsMost : ℕ
+tagsMost = 4096
+
+abbrev pub rowsLen : ℕ
+rowsLen = rowLen * tagsMost
+
 unfoldable pub blank : Lent
-blank = lent (replicate 16000 0) (replicate 8192 0) (replicate 4096 0)
+blank = lent (replicate storeLen 0) (replicate rowsLen 0) (replicate listLen 0)
 
 -- THE CONSOLE, from the bytes of standard input to those of standard output. "Output: first of all a names line"
 unfoldable pub consoleOutput : List ℕ → List ℕ

@@ -3,15 +3,17 @@ use mathlib.Core.Bool.{Bool, true, false, cond}
 use mathlib.Core.List.{List, [], _∷_, _++_}
 use Prim.Native.Nat.{ℕ, _+_}
 use lib.Dec.{ltb}
+use Rattle.console_text.specs.declared.gather.Gather.{Gather}
 use Rattle.console_text.specs.declared.gather.Fed.{Fed}
 use Rattle.console_text.specs.declared.gather.Fed.the-variants.{More, LineEnd}
 use Rattle.console_text.specs.Lines.{newLine, leftOver, fedAnswer, fedLine, lineText}
 use Rattle.console_run.specs.declared.turn.Stage.{Stage}
 use Rattle.console_run.specs.declared.turn.Stage.the-variants.{SettingsNames, Settings, ChangeNames, Changes, Over}
 use Rattle.console_run.specs.declared.turn.Said.the-variants.{Nothing}
+use Rattle.console_run.specs.declared.turn.Turn.{Turn}
 use Rattle.console_run.specs.declared.feed.Console.{Console}
 use Rattle.console_run.specs.declared.feed.Step.{Step}
-use Rattle.console_run.specs.Console.{Lent, lent, lineDoes, saidLines, joined, saidBytes, missing}
+use Rattle.console_run.specs.Console.{Lent, lent, lineDoes, saidLines, joined, missing}
 
 -- A step, with the line's buffer and the lent words after it.
 pub record Stepped : Type 0 where
@@ -27,30 +29,33 @@ unfoldable pub begun : Console
 begun = record { stage = SettingsNames; gather = newLine; number = 1 }
 
 -- 64 bits hold the count of every input's lines.
-unfoldable pub nextNumber : ℕ → ℕ
-nextNumber number = cond (ltb number 18446744073709551615) (number + 1) number
+abbrev pub countMost : ℕ
+countMost = 18446744073709551615
 
--- No line is complete.
-abbrev pub quiet : Console → List ℕ → Lent → Stepped
-quiet c line words = record { step = record { console = c; said = Nothing; number = c .number }; line = line; lent = words }
+unfoldable pub nextNumber : ℕ → ℕ
+nextNumber number = cond (ltb number countMost) (number + 1) number
+
+-- After the line `number`: a new line is awaited.
+abbrev pub passed : Turn → ℕ → Step
+passed turn number = record {
+  console = record { stage = turn .next; gather = newLine; number = nextNumber number };
+  said = turn .said;
+  number = number;
+}
+
+-- No line is complete: it goes on with what is gathered.
+abbrev pub goesOn : Console → Gather → Step
+goesOn c gather = record { console = record { stage = c .stage; gather = gather; number = c .number }; said = Nothing; number = c .number }
 
 -- The line that was gathered is complete.
 unfoldable pub taken : Console → List ℕ → Lent → Stepped
 taken c line words =
     let d = lineDoes (c .stage) (lineText (c .gather) line) words in
-    record {
-      step = record {
-        console = record { stage = d .turn .next; gather = newLine; number = nextNumber (c .number) };
-        said = d .turn .said;
-        number = c .number;
-      };
-      line = line;
-      lent = d .lent;
-    }
+    record { step = passed (d .turn) (c .number); line = line; lent = d .lent }
 
 -- What a byte does: the line goes on, or it is complete.
 unfoldable pub fedBy : Fed → Console → List ℕ → Lent → Stepped
-fedBy (More longer) c line words = quiet (record { stage = c .stage; gather = longer; number = c .number }) line words
+fedBy (More longer) c line words = record { step = goesOn c longer; line = line; lent = words }
 fedBy LineEnd c line words = taken c line words
 
 unfoldable pub fed : Console → List ℕ → Lent → ℕ → Stepped
@@ -58,7 +63,8 @@ fed c line words x = fedBy (fedAnswer (c .gather) x) c (fedLine (c .gather) line
 
 -- At the end of the input: the last line, if there is one that lacks its newline.
 unfoldable pub lastTaken : Console → List ℕ → Lent → Stepped
-lastTaken c line words = cond (leftOver (c .gather)) (taken c line words) (quiet c line words)
+lastTaken c line words = cond (leftOver (c .gather)) (taken c line words)
+    (record { step = goesOn c (c .gather); line = line; lent = words })
 
 -- ---- a program's loop
 
@@ -75,15 +81,24 @@ pub record State : Type 0 where
   pub line : List ℕ
   pub lent : Lent
 
+abbrev pub stateOf : Console → List ℕ → Lent → State
+stateOf c line words = record { console = c; line = line; lent = words }
+
 abbrev pub state : Console → List ℕ → List ℕ → List ℕ → List ℕ → State
-state c line store rows list = record { console = c; line = line; lent = lent store rows list }
+state c line store rows list = stateOf c line (lent store rows list)
+
+-- A byte more.
+abbrev pub afterByte : State → ℕ → State
+afterByte s x =
+    let f = fed (s .console) (s .line) (s .lent) x in
+    record { console = f .step .console; line = f .line; lent = f .lent }
 
 -- After these bytes. None is fed once the run is over.
 unfoldable pub fedAll : State → List ℕ → State
 fedAll s [] = s
-fedAll s (x ∷ more) =
-    let f = fed (s .console) (s .line) (s .lent) x in
-    cond (isOver (s .console .stage)) s (fedAll (record { console = f .step .console; line = f .line; lent = f .lent }) more)
+fedAll s (x ∷ more) = cond (isOver (s .console .stage)) s (fedAll (afterByte s x) more)
+
+-- ---- what it prints
 
 -- The output lines of a step, and their bytes.
 abbrev pub stepLines : Stepped → List (List ℕ)
@@ -92,34 +107,18 @@ stepLines s = saidLines (s .step .said) (s .step .number) (s .lent .rows)
 abbrev pub stepBytes : Stepped → List ℕ
 stepBytes s = joined (stepLines s)
 
--- At the end: the last line, then a missing one.
-unfoldable pub finish : Console → List ℕ → Lent → List ℕ
-finish c line words =
-    let s = lastTaken c line words in
-    stepBytes s ++ saidBytes (missing (s .step .console .stage)) (s .step .console .number) (s .lent .rows)
-
--- What is printed by a program that feeds the bytes in order until the run is over, prints what each step says, and then finishes.
-unfoldable pub driven : Console → List ℕ → Lent → List ℕ → List ℕ
-driven c line words [] = finish c line words
-driven c line words (x ∷ more) =
-    let s = fed c line words x in
-    cond (isOver (c .stage)) (finish c line words) (stepBytes s ++ driven (s .step .console) (s .line) (s .lent) more)
-
--- ---- the same, line by line
-
 -- The output lines for these bytes, as long as the run is not over.
 unfoldable pub fedLines : State → List ℕ → List (List ℕ)
 fedLines s [] = []
 fedLines s (x ∷ more) =
-    let f = fed (s .console) (s .line) (s .lent) x in
-    cond (isOver (s .console .stage)) [] (stepLines f ++ fedLines (record { console = f .step .console; line = f .line; lent = f .lent }) more)
+    cond (isOver (s .console .stage)) [] (stepLines (fed (s .console) (s .line) (s .lent) x) ++ fedLines (afterByte s x) more)
 
--- Those at the end of the input.
+-- Those at the end of the input: of the last line, then of a missing one.
 unfoldable pub finishLines : State → List (List ℕ)
 finishLines s =
     let t = lastTaken (s .console) (s .line) (s .lent) in
     stepLines t ++ saidLines (missing (t .step .console .stage)) (t .step .console .number) (t .lent .rows)
 
--- Those for an input from here on.
+-- Those for an input from here on, by a program that feeds the bytes in order until the run is over, prints what each step says, and then finishes.
 unfoldable pub runLines : State → List ℕ → List (List ℕ)
 runLines s input = fedLines s input ++ finishLines (fedAll s input)

@@ -7,9 +7,12 @@ use native.Mathlib.Omega.{arith}
 use lib.Dec.{leb}
 use lib.ListN.{length, getD, length-append, List·getD-eq-default, List·getD-append}
 use lib.Seq.{getD-at}
-use borrow.Author.Tests.{lt-ltb, le-ltb, le-leb, lt-leb}
+use borrow.Author.Tests.{le-leb, lt-leb}
 use Rattle.base.specs.Branch.{lt?}
-use Rattle.console_text.specs.Output.{rowLine, sumLine, noLine, badLine, printedLen, printedBytes, lineRoom, Printed}
+use Rattle.layout.specs.Sizes.{rowLen}
+use Rattle.console_text.specs.Output.{rowLine, sumLine, noLine, badLine, lineRoom, Printed}
+use Rattle.console_text.specs.PieceLaws.{piece-none}
+use Rattle.console_text.specs.OutputLaws.{printed-not, printed}
 use Rattle.console_run.specs.declared.turn.Said.{Said}
 use Rattle.console_run.specs.declared.turn.Said.the-variants.{Nothing, Bad, No, Slice}
 use Rattle.console_run.specs.Console.{rowLineAt, rowLines, saidLines}
@@ -75,20 +78,7 @@ slice-at time count blocks number rows i h = lt? i count
 
 -- Nothing is printed.
 pub printed-nothing : (before : List ℕ) → Printed [] before 0 before
-unfolding printedLen printedBytes lineRoom
-printed-nothing before = lt? (length before) 64
-    (λ h. record {
-      count = rw (lt-ltb (length before) 64 h);
-      buffer = rw (lt-ltb (length before) 64 h);
-      within = omega arith;
-      taken = refl;
-    })
-    (λ h. record {
-      count = rw (le-ltb (length before) 64 h);
-      buffer = rw (le-ltb (length before) 64 h);
-      within = omega arith;
-      taken = refl;
-    })
+printed-nothing before = lt? (length before) lineRoom (printed-not [] before) (λ h. printed h (piece-none before 0 (omega arith)))
 
 -- The same line by another name.
 pub printed-as : {text same before after : List ℕ} {r : ℕ} → text ≡ same → Printed same before r after → Printed text before r after
@@ -100,7 +90,7 @@ module _ (time count blocks : ℕ) (rows : List ℕ) (i : ℕ) where
   unfolding sliceLine
   sum-is h = rw (le-leb count i h)
 
-  pub row-is : {tag reading : ℕ} → i < count → tag ≡ getD rows (2 * i) 0 → reading ≡ getD rows (2 * i + 1) 0
+  pub row-is : {tag reading : ℕ} → i < count → tag ≡ getD rows (rowLen * i) 0 → reading ≡ getD rows (rowLen * i + 1) 0
       → sliceLine time count blocks rows i ≡ rowLine time tag reading
   unfolding sliceLine
   row-is h e f = rw (lt-leb count i h, e, f)

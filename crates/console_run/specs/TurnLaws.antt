@@ -23,8 +23,8 @@ use Rattle.console_text.specs.Input.{settingsNames, settingsLine, changeNames, 
 use Rattle.console_text.specs.Lines.{lineText}
 use Rattle.console_run.specs.declared.turn.Stage.{Stage}
 use Rattle.console_run.specs.declared.turn.Stage.the-variants.{SettingsNames, Settings, ChangeNames, Changes, Over}
-use Rattle.console_run.specs.declared.turn.Asked.{Asked}
-use Rattle.console_run.specs.declared.turn.Asked.the-variants as asked
+use Rattle.console_run.specs.declared.turn.LineAsks.{LineAsks}
+use Rattle.console_run.specs.declared.turn.LineAsks.the-variants as asked
 use Rattle.console_run.specs.declared.turn.Turn.{Turn}
 use Rattle.console_run.specs.declared.turn.Said.the-variants.{Nothing}
 use Rattle.console_run.specs.Console.{Lent, lent, Does, does, only, says, badAt, sameBytes, namesDo, answered, called, settingsDo, askedOf, changeDo, textDoes, lineDoes}
@@ -59,33 +59,57 @@ names-bad stage next names text n =
     by-test (sameBytes text names) (λ t. badAt stage ≡ cond t (says next Nothing) (badAt stage)) (λ e. absurd (n (bytes-same text names e))) (λ e. refl)
 
 -- ---- a call
-pub called-is : {store rows list store′ rows′ list′ : List ℕ} {call : Call} {a : Answer} (done refused : Stage) (time : ℕ) {t : Turn}
+called-is : {store rows list store′ rows′ list′ : List ℕ} {call : Call} {a : Answer} (done refused : Stage) (time : ℕ) {t : Turn}
     → Applied store call rows list a store′ rows′ list′ → t ≡ answered done refused time a
     → does t store′ rows′ list′ ≡ called done refused time call (lent store rows list)
 unfolding called
 called-is done refused time p e = rw (e, p .answer, p .store, ← (p .buffers))
 
--- ---- the settings, as they were read
-module _ {read line : SettingsLine} (words : Lent) (e : read ≡ line) where
-  pub settings-values : {b q blocks tags : ℕ} {asked : Setting} {d : Does} → read ≡ settings.Values b q blocks tags → asked ≡ settingsOf b q blocks tags
-      → d ≡ called ChangeNames Over 0 (call.Start asked) words → d ≡ settingsDo line words
-  unfolding settingsDo
-  settings-values f h g = (rw h at g) ∙ rw (← e, f)
+-- ---- what a line asks for
 
-  pub settings-bad : {t : Turn} → read ≡ settings.Bad → t ≡ badAt Settings → only t words ≡ settingsDo line words
-  unfolding settingsDo
-  settings-bad f g = rw (g, ← e, f)
+-- The settings ask for start, at time 0.
+abbrev pub startOf : SettingsLine → LineAsks
+startOf (settings.Values b q blocks tags) = asked.Call 0 (call.Start (settingsOf b q blocks tags))
+startOf settings.Bad = asked.Bad
 
--- ---- what a change line asks for
-module _ {read : Asked} {line parsed : Line} (words : Lent) (e : read ≡ askedOf parsed) (l : parsed ≡ line) where
-  pub change-called : {time : ℕ} {call : Call} {d : Does} → read ≡ asked.Call time call
-      → d ≡ called Changes Changes time call words → d ≡ changeDo (askedOf line) words
-  unfolding changeDo
-  change-called f g = g ∙ rw (← l, ← e, f)
+-- What is asked for at a stage, and what is awaited after it, accepted or refused.
+unfoldable pub askedDo : Stage → Stage → Stage → LineAsks → Lent → Does
+askedDo stage done refused (asked.Call time call) words = called done refused time call words
+askedDo stage done refused asked.Bad words = only (badAt stage) words
 
-  pub change-bad : {t : Turn} → read ≡ asked.Bad → t ≡ badAt Changes → only t words ≡ changeDo (askedOf line) words
-  unfolding changeDo
-  change-bad f g = rw (g, ← l, ← e, f)
+pub start-asked : {line : SettingsLine} {b q blocks tags : ℕ} {s : Setting} → line ≡ settings.Values b q blocks tags
+    → s ≡ settingsOf b q blocks tags → asked.Call 0 (call.Start s) ≡ startOf line
+start-asked e f = rw (e, f)
+
+module _ {a : LineAsks} (stage done refused : Stage) where
+  pub asked-called : {store rows list store′ rows′ list′ : List ℕ} {time : ℕ} {call : Call} {r : Answer} {t : Turn}
+      → a ≡ asked.Call time call → Applied store call rows list r store′ rows′ list′ → t ≡ answered done refused time r
+      → does t store′ rows′ list′ ≡ askedDo stage done refused a (lent store rows list)
+  unfolding askedDo
+  asked-called {time} e p f = called-is done refused time p f ∙ rw e
+
+  pub asked-bad : {t : Turn} (words : Lent) → a ≡ asked.Bad → t ≡ badAt stage → only t words ≡ askedDo stage done refused a words
+  unfolding askedDo
+  asked-bad words e f = rw (e, f)
+
+start-does : (line : SettingsLine) (words : Lent) → askedDo Settings ChangeNames Over (startOf line) words ≡ settingsDo line words
+unfolding askedDo settingsDo
+start-does (settings.Values b q blocks tags) words = refl
+start-does settings.Bad words = refl
+
+asked-does : (a : LineAsks) (words : Lent) → askedDo Changes Changes Changes a words ≡ changeDo a words
+unfolding askedDo changeDo
+asked-does (asked.Call time call) words = refl
+asked-does asked.Bad words = refl
+
+module _ (words : Lent) {a : LineAsks} {d : Does} where
+  pub settings-does : {read line : SettingsLine} → read ≡ line → a ≡ startOf read
+      → d ≡ askedDo Settings ChangeNames Over a words → d ≡ settingsDo line words
+  settings-does {line} e f g = g ∙ rw (f, e) (start-does line words)
+
+  pub change-does : {read line : Line} → read ≡ line → a ≡ askedOf read
+      → d ≡ askedDo Changes Changes Changes a words → d ≡ changeDo (askedOf line) words
+  change-does {line} e f g = g ∙ rw (f, e) (asked-does (askedOf line) words)
 
 -- ---- a line by its stage
 module _ {stage : Stage} (text : List ℕ) (words : Lent) where
@@ -117,15 +141,12 @@ take-min n l e = lt? n (length l)
     (λ a. let f : min n (length l) ≡ n = omega arith in rw (e, f))
     (λ a. let f : min n (length l) ≡ length l = omega arith in rw (e, f, take-all (length l) l (omega arith), take-all n l a))
 
-pub start-does : (stage : Stage) (n : ℕ) (l : List ℕ) (words : Lent) {m : ℕ} {d : Does} → m ≡ min n (length l)
-    → d ≡ textDoes stage (take m l) words → d ≡ textDoes stage (take n l) words
-start-does stage n l words e f = f ∙ rw (take-min n l e)
-
 module _ (stage : Stage) (g : Gather) (line : List ℕ) (words : Lent) where
   pub long-does : {t : Turn} → g .long ≡ true → t ≡ badAt stage → only t words ≡ lineDoes stage (lineText g line) words
   unfolding lineText lineDoes
   long-does e f = rw (e, f)
 
-  pub whole-does : {d : Does} → g .long ≡ false → d ≡ textDoes stage (take (g .len) line) words → d ≡ lineDoes stage (lineText g line) words
+  pub whole-does : {m : ℕ} {d : Does} → g .long ≡ false → m ≡ min (g .len) (length line)
+      → d ≡ textDoes stage (take m line) words → d ≡ lineDoes stage (lineText g line) words
   unfolding lineText lineDoes
-  whole-does e f = f ∙ rw e
+  whole-does e f h = h ∙ rw (e, take-min (g .len) line f)

@@ -3,12 +3,13 @@
 use crate::turn;
 use crate::turn::Said;
 use crate::turn::Stage;
+use crate::turn::Turn;
 use console_text::gather::Fed;
 use console_text::gather::Gather;
 use console_text::gather::LINE_MOST;
 ghost use mathlib.Core.Path.{_≡_};
 ghost use Rattle.console_run.specs.Console.{lent};
-ghost use Rattle.console_run.specs.Feed.{stepped, begun, nextNumber, taken, fed, lastTaken};
+ghost use Rattle.console_run.specs.Feed.{stepped, begun, nextNumber, passed, goesOn, taken, fed, lastTaken};
 
 pub struct Console {
     pub stage: Stage,
@@ -37,6 +38,24 @@ pub fn next_number(number: u64) -> u64
     number
 }
 
+// After the line `number`: a new line is awaited.
+fn passed(turn: Turn, number: u64) -> Step
+    ensures { λ r. ⌜ r ≡ passed turn number ⌝ }
+{
+    let next = turn.next;
+    let said = turn.said;
+    let gather = Gather::new();
+    Step {
+        console: Console {
+            stage: next,
+            gather,
+            number: next_number(number),
+        },
+        said,
+        number,
+    }
+}
+
 impl Console {
     // Before the first byte.
     pub fn new() -> Console
@@ -47,6 +66,23 @@ impl Console {
             stage: Stage::SettingsNames,
             gather,
             number: 1,
+        }
+    }
+
+    // No line is complete: it goes on with what is gathered.
+    fn goes_on(self, gather: Gather) -> Step
+        ensures { λ r. ⌜ r ≡ goesOn self gather ⌝ }
+    {
+        let stage = self.stage;
+        let number = self.number;
+        Step {
+            console: Console {
+                stage,
+                gather,
+                number,
+            },
+            said: Said::Nothing,
+            number,
         }
     }
 
@@ -63,20 +99,9 @@ impl Console {
     {
         let stage = self.stage;
         let gather = self.gather;
-        let turn = turn::take_line(stage, gather, line, store, rows, list);
-        let next = turn.next;
-        let said = turn.said;
         let number = self.number;
-        let fresh = Gather::new();
-        Step {
-            console: Console {
-                stage: next,
-                gather: fresh,
-                number: next_number(number),
-            },
-            said,
-            number,
-        }
+        let turn = turn::take_line(stage, gather, line, store, rows, list);
+        passed(turn, number)
     }
 
     // The next byte.
@@ -91,19 +116,9 @@ impl Console {
         ensures { λ r. ⌜ stepped r (now (line .exit)) (now (store .exit)) (now (rows .exit)) (now (list .exit))
             ≡ fed self (now (line .entry)) (lent (now (store .entry)) (now (rows .entry)) (now (list .entry))) byte ⌝ }
     {
-        let stage = self.stage;
         let gather = self.gather;
-        let number = self.number;
         match gather.feed(line, byte) {
-            Fed::More(longer) => Step {
-                console: Console {
-                    stage,
-                    gather: longer,
-                    number,
-                },
-                said: Said::Nothing,
-                number,
-            },
+            Fed::More(longer) => self.goes_on(longer),
             Fed::LineEnd => self.take(line, store, rows, list),
         }
     }
@@ -123,11 +138,6 @@ impl Console {
         if gather.left_over() {
             return self.take(line, store, rows, list);
         }
-        let number = self.number;
-        Step {
-            console: self,
-            said: Said::Nothing,
-            number,
-        }
+        self.goes_on(gather)
     }
 }

@@ -9,10 +9,10 @@ use console_text::parse::SettingsLine;
 use layout::settings::Settings;
 ghost use mathlib.Core.Path.{_≡_};
 ghost use Prim.Native.Nat.{min};
-ghost use lib.ListN.{take};
 ghost use Rattle.console_text.specs.Input.{settingsNames, settingsLine, changeNames, changeLine};
 ghost use Rattle.console_text.specs.Lines.{lineText};
-ghost use Rattle.console_run.specs.Console.{lent, does, says, badAt, namesDo, answered, called, settingsDo, askedOf, changeDo, textDoes, lineDoes};
+ghost use Rattle.console_run.specs.Console.{lent, does, says, badAt, namesDo, answered, settingsDo, askedOf, changeDo, textDoes, lineDoes};
+ghost use Rattle.console_run.specs.TurnLaws.{startOf, askedDo};
 
 // The line that is awaited: one of the first three, a change, or none any more.
 pub enum Stage {
@@ -39,7 +39,7 @@ pub struct Turn {
 }
 
 // What a change line asks for.
-pub enum Asked {
+pub enum LineAsks {
     // at a time, a call
     Call(u32, Call),
     Bad,
@@ -111,9 +111,35 @@ fn answered(answer: Answer, time: u32, done: Stage, refused: Stage) -> Turn
     }
 }
 
+fn asked_of(line: Line) -> LineAsks
+    ensures { λ r. ⌜ r ≡ askedOf line ⌝ }
+{
+    match line {
+        Line::Set(time, tag, reading) => LineAsks::Call(time, Call::Set(time, tag, reading)),
+        Line::Clear(time, tag) => LineAsks::Call(time, Call::Clear(time, tag)),
+        Line::Update(time, tag, reading) => LineAsks::Call(time, Call::Update(time, tag, reading)),
+        Line::Advance(time) => LineAsks::Call(time, Call::Advance(time)),
+        Line::LookBack(time) => LineAsks::Call(time, Call::LookBack(time)),
+        Line::Bad => LineAsks::Bad,
+    }
+}
+
+// What the settings ask for: to start with them, at time 0.
+fn start_of(line: SettingsLine) -> LineAsks
+    ensures { λ r. ⌜ r ≡ startOf line ⌝ }
+{
+    match line {
+        SettingsLine::Values(b, q, blocks, tags) => {
+            LineAsks::Call(0, Call::Start(Settings::asked(b, q, blocks, tags)))
+        }
+        SettingsLine::Bad => LineAsks::Bad,
+    }
+}
+
+// What a line of this stage asks for: `done` is awaited after an accepted call, `refused` after a refused one.
 fn called(
-    call: Call,
-    time: u32,
+    asked: LineAsks,
+    stage: Stage,
     done: Stage,
     refused: Stage,
     store: &mut [u32],
@@ -121,62 +147,47 @@ fn called(
     list: &mut [u32],
 ) -> Turn
     ensures { λ r. ⌜ does r (now (store .exit)) (now (rows .exit)) (now (list .exit))
-        ≡ called done refused time call (lent (now (store .entry)) (now (rows .entry)) (now (list .entry))) ⌝ }
+        ≡ askedDo stage done refused asked (lent (now (store .entry)) (now (rows .entry)) (now (list .entry))) ⌝ }
 {
-    let answer = applying::apply(store, call, rows, list);
-    answered(answer, time, done, refused)
+    match asked {
+        LineAsks::Call(time, call) => {
+            let answer = applying::apply(store, call, rows, list);
+            answered(answer, time, done, refused)
+        }
+        LineAsks::Bad => bad_at(stage),
+    }
 }
 
-// The settings, with which start is called, at time 0.
 fn settings(text: &[u8], store: &mut [u32], rows: &mut [u32], list: &mut [u32]) -> Turn
     ensures { λ r. ⌜ does r (now (store .exit)) (now (rows .exit)) (now (list .exit))
-        ≡ settingsDo (settingsLine (now (text .entry)))
-        (lent (now (store .entry)) (now (rows .entry)) (now (list .entry))) ⌝ }
+        ≡ settingsDo (settingsLine (now (text .entry))) (lent (now (store .entry)) (now (rows .entry)) (now (list .entry))) ⌝ }
 {
-    match parse::parse_settings(text) {
-        SettingsLine::Values(b, q, blocks, tags) => called(
-            Call::Start(Settings::asked(b, q, blocks, tags)),
-            0,
-            Stage::ChangeNames,
-            Stage::Over,
-            store,
-            rows,
-            list,
-        ),
-        SettingsLine::Bad => bad_at(Stage::Settings),
-    }
-}
-
-fn asked_of(line: Line) -> Asked
-    ensures { λ r. ⌜ r ≡ askedOf line ⌝ }
-{
-    match line {
-        Line::Set(time, tag, reading) => Asked::Call(time, Call::Set(time, tag, reading)),
-        Line::Clear(time, tag) => Asked::Call(time, Call::Clear(time, tag)),
-        Line::Update(time, tag, reading) => Asked::Call(time, Call::Update(time, tag, reading)),
-        Line::Advance(time) => Asked::Call(time, Call::Advance(time)),
-        Line::LookBack(time) => Asked::Call(time, Call::LookBack(time)),
-        Line::Bad => Asked::Bad,
-    }
+    let asked = start_of(parse::parse_settings(text));
+    called(
+        asked,
+        Stage::Settings,
+        Stage::ChangeNames,
+        Stage::Over,
+        store,
+        rows,
+        list,
+    )
 }
 
 fn change(text: &[u8], store: &mut [u32], rows: &mut [u32], list: &mut [u32]) -> Turn
     ensures { λ r. ⌜ does r (now (store .exit)) (now (rows .exit)) (now (list .exit))
-        ≡ changeDo (askedOf (changeLine (now (text .entry))))
-        (lent (now (store .entry)) (now (rows .entry)) (now (list .entry))) ⌝ }
+        ≡ changeDo (askedOf (changeLine (now (text .entry)))) (lent (now (store .entry)) (now (rows .entry)) (now (list .entry))) ⌝ }
 {
-    match asked_of(parse::parse_change(text)) {
-        Asked::Call(time, call) => called(
-            call,
-            time,
-            Stage::Changes,
-            Stage::Changes,
-            store,
-            rows,
-            list,
-        ),
-        Asked::Bad => bad_at(Stage::Changes),
-    }
+    let asked = asked_of(parse::parse_change(text));
+    called(
+        asked,
+        Stage::Changes,
+        Stage::Changes,
+        Stage::Changes,
+        store,
+        rows,
+        list,
+    )
 }
 
 // A line of at most LINE_MOST bytes.
@@ -205,23 +216,6 @@ fn least(a: usize, b: usize) -> usize
     if a < b { a } else { b }
 }
 
-// The first `len` bytes of a buffer.
-fn take_start(
-    stage: Stage,
-    len: usize,
-    line: &[u8],
-    store: &mut [u32],
-    rows: &mut [u32],
-    list: &mut [u32],
-) -> Turn
-    ensures { λ r. ⌜ does r (now (store .exit)) (now (rows .exit)) (now (list .exit))
-        ≡ textDoes stage (take len (now (line .entry)))
-        (lent (now (store .entry)) (now (rows .entry)) (now (list .entry))) ⌝ }
-{
-    let end = least(len, line.len());
-    take_text(stage, &line[..end], store, rows, list)
-}
-
 // The line that is complete, as it was gathered.
 pub fn take_line(
     stage: Stage,
@@ -238,6 +232,7 @@ pub fn take_line(
     if gather.long {
         return bad_at(stage);
     }
-    let len = gather.len;
-    take_start(stage, len, line, store, rows, list)
+    let bytes: &[u8] = line;
+    let end = least(gather.len, bytes.len());
+    take_text(stage, &bytes[..end], store, rows, list)
 }

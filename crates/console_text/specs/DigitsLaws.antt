@@ -1,16 +1,16 @@
--- A decimal written from its last digit on, how long it is, and what putting it into a buffer ensures.
+-- How long a decimal is, that it is what the library `io` spells, and what putting it into a buffer ensures.
 use mathlib.Core.Path.{_≡_, sym, _∙_}
-use mathlib.Core.List.{List, [], _∷_}
+use mathlib.Core.List.{List, [], _∷_, _++_, append-assoc, append-nil}
 use Prim.Native.Nat.{ℕ, zero, suc, _+_, _-_, _/_, _%_, _^_, _≤_, _<_}
 use native.Mathlib.Omega.{arith}
-use native.Mathlib.Nat.{pow-suc}
+use native.Mathlib.Nat.{pow-suc, one-le-pow, pow-le-pow-right}
 use lib.Dec.{lit<}
-use lib.ListN.{length, take, drop, set, length-set, length-drop, drop-of-length-le}
-use lib.Seq.{take-all, set-split, drop-at, length-take-le}
+use lib.ListN.{length}
 use borrow.Author.Tests.{lt-ltb, le-ltb}
 use Rattle.base.specs.Branch.{lt?}
+use Rattle.io.specs.Digits.{glyph, digits, Fewest}
 use Rattle.console_text.specs.Decimal.{digitByte, digitsBefore, decimal}
-use Rattle.console_text.specs.PieceLaws.{Piece}
+use Rattle.console_text.specs.PieceLaws.{Piece, piece-then}
 
 -- A number up to 9 is a digit, and a larger one ends with one.
 pub digits-few : (k n : ℕ) (after : List ℕ) → n < 10 → digitsBefore (suc k) n after ≡ digitByte n ∷ after
@@ -42,69 +42,51 @@ pub decimal-most : (n : ℕ) → n < 2 ^ 64 → length (decimal n) ≤ 20
 unfolding decimal
 decimal-most n h = digits-length 20 19 n [] (omega arith)
 
--- ---- from the last digit on
+-- ---- as the library spells them
 
--- What is stored at i stands before what follows.
-drop-set : (l : List ℕ) (i x : ℕ) → i < length l → drop i (set l i x) ≡ x ∷ drop (suc i) l
-drop-set l i x h = rw (set-split l i x h) (drop-at (take i l) (x ∷ drop (suc i) l) i (length-take-le i l (omega arith)))
+-- As many digits as a number has are its decimal, before the bytes that follow.
+digits-same : (k m n : ℕ) (after : List ℕ) → k ≤ m → n < 10 ^ suc k → (0 < k → 10 ^ k ≤ n)
+    → digits 10 (suc k) n ++ after ≡ digitsBefore (suc m) n after
+digits-same zero m n after h s l =
+    let a : n < 10 = omega (arith, pow-suc 10 0) in
+    let e : n % 10 ≡ n = omega arith in
+    rw (e, lt-ltb n 10 a) (sym (digits-few m n after a))
+digits-same (suc k) zero n after h s l = absurd (omega arith)
+digits-same (suc k) (suc m) n after h s l =
+    let p : 10 ^ suc k ≤ n = l (omega arith) in
+    let a : 10 ≤ n = omega (arith, pow-suc 10 k, one-le-pow k 10 (lit< tt)) in
+    let d : n % 10 < 10 = omega arith in
+    rw (append-assoc (digits 10 (suc k) (n / 10)) (glyph (n % 10) ∷ []) after, lt-ltb (n % 10) 10 d, digits-many (suc m) n after a)
+    (digits-same k m (n / 10) (digitByte (n % 10) ∷ after) (omega arith) (omega (arith, pow-suc 10 (suc k))) (λ z. omega (arith, pow-suc 10 k)))
 
--- The decimal of n is that of `rest`, in at most i + 1 digits, before what stands after place i.
-pub record DigitsFrom (n rest i : ℕ) (text : List ℕ) : Type 0 where
-  pub long : length text ≡ 20
-  pub within : i < 20
-  pub small : rest < 10 ^ suc i
-  pub is : decimal n ≡ digitsBefore (suc i) rest (drop (suc i) text)
+-- No number of 64 bits has more than 20.
+pub digits-most : {n k : ℕ} → n < 2 ^ 64 → Fewest 10 1 n k → k ≤ 20
+digits-most {n} {k} h f = lt? 20 k
+    (λ a. let p : 10 ^ (k - 1) ≤ n = f .2 (omega arith) in
+    let m : 10 ^ 20 ≤ 10 ^ (k - 1) = pow-le-pow-right {n = 10} (lit< tt) {i = 20} {j = k - 1} (omega arith) in absurd (omega arith)) (λ a. a)
 
--- The decimal of n stands from place r on.
-pub record Digits (n r : ℕ) (text : List ℕ) : Type 0 where
-  pub long : length text ≡ 20
-  pub within : r < 20
-  pub is : drop r text ≡ decimal n
-
-pub digits-start : (n : ℕ) (text : List ℕ) → n < 2 ^ 64 → length text ≡ 20 → DigitsFrom n n 19 text
+spelled : (k n : ℕ) → Fewest 10 1 n k → k ≤ 20 → digits 10 k n ≡ decimal n
 unfolding decimal
-digits-start n text h e = record { long = e; within = lit< tt; small = omega arith; is = rw (drop-of-length-le text {i = 20} (omega arith)) }
-
-module _ {n rest i : ℕ} {text : List ℕ} (d : DigitsFrom n rest i text) where
-  -- A number above 9 has a place left,
-  pub digits-more : 9 < rest → 0 < i
-  digits-more h = lt? 0 i (λ a. a) (λ a. let e : i ≡ 0 = omega arith in absurd (omega (arith, rw e at (d .small))))
-
-  pub digits-next : 9 < rest → {x : ℕ} → x ≡ digitByte (rest % 10) → DigitsFrom n (rest / 10) (i - 1) (set text i x)
-  digits-next h {x} e =
-      let m : 0 < i = digits-more h in
-      let s : suc (i - 1) ≡ i = omega arith in
-      record {
-        long = length-set text i x ∙ d .long;
-        within = omega (arith, d .within);
-        small = rw s (omega (arith, d .small, pow-suc 10 i));
-        is = rw (s, drop-set text i x (omega (arith, d .long, d .within)), e) (d .is ∙ digits-many i rest (drop (suc i) text) h);
-      }
-
-  pub digits-end : rest ≤ 9 → {x : ℕ} → x ≡ digitByte rest → Digits n i (set text i x)
-  digits-end h {x} e =
-      record {
-        long = length-set text i x ∙ d .long;
-        within = d .within;
-        is = rw (drop-set text i x (omega (arith, d .long, d .within)), e) (sym (d .is ∙ digits-few i rest (drop (suc i) text) (omega arith)));
-      }
+spelled zero n f h = absurd (omega (arith, f .0))
+spelled (suc k) n f h = sym (append-nil (digits 10 (suc k) n)) ∙ digits-same k 19 n [] (omega arith) (f .1) (λ p. rw one at (f .2 (omega arith)))
+  where
+    one : suc k - 1 ≡ k
+    one = omega arith
 
 -- ---- put into a buffer
 
--- The decimal of n is a piece, of at most 20 bytes, and at most 10 for a word.
-pub record PutNumber (n at : ℕ) (before : List ℕ) (end : ℕ) (after : List ℕ) : Type 0 where
-  pub piece : Piece (decimal n) at before end after
-  pub most : end ≤ at + 20
-  pub word : n < 2 ^ 32 → end ≤ at + 10
+-- The decimal of n and a byte after it are a piece, of at most 21 bytes, and at most 11 for a word.
+pub record PutNumber (n last at : ℕ) (before : List ℕ) (end : ℕ) (after : List ℕ) : Type 0 where
+  pub piece : Piece (decimal n ++ (last ∷ [])) at before end after
+  pub most : end ≤ at + 21
+  pub word : n < 2 ^ 32 → end ≤ at + 11
 
-pub number-put : {n start at end : ℕ} {text before after : List ℕ} → n < 2 ^ 64 → Digits n start text
-    → Piece (take (20 - start) (drop start text)) at before end after → PutNumber n at before end after
-number-put {n} {start} {at} {end} {text} {before} {after} h d p =
-    let t : take (20 - start) (drop start text) ≡ decimal n =
-    take-all (20 - start) (drop start text) (simp length-drop (omega (arith, d .long))) ∙ d .is in
-    let q : Piece (decimal n) at before end after = rw t at p in
+pub number-put : {n k last at mid end : ℕ} {text before between after : List ℕ} → n < 2 ^ 64 → Fewest 10 1 n k → text ≡ digits 10 k n
+    → Piece text at before mid between → Piece (last ∷ []) mid between end after → PutNumber n last at before end after
+number-put {n} {k} {at = at} {mid = mid} {before = before} {between = between} h f e p q =
+    let d : Piece (decimal n) at before mid between = rw (e ∙ spelled k n f (digits-most h f)) at p in
     record {
-      piece = q;
-      most = omega (arith, q .ends, decimal-most n h);
-      word = λ w. omega (arith, q .ends, decimal-word n w);
+      piece = piece-then d q;
+      most = omega (arith, d .ends, q .ends, decimal-most n h);
+      word = λ w. omega (arith, d .ends, q .ends, decimal-word n w);
     }

@@ -12,7 +12,7 @@ use Rattle.console_text.specs.declared.parse.Line.{Line}
 use Rattle.console_text.specs.declared.parse.Line.the-variants as change
 use Rattle.console_text.specs.Bytes.{bytes}
 use Rattle.console_text.specs.Decimal.{wordOf, readingOf}
-use Rattle.console_text.specs.Fields.{split, four}
+use Rattle.console_text.specs.Fields.{fieldsOf, four}
 
 -- "Each names line must stand exactly so."
 unfoldable pub settingsNames : List ℕ
@@ -36,7 +36,7 @@ settingsOf block useful blocks tags =
     given settings.Bad (wordOf tags) (λ d. settings.Values b q n d))))
 
 unfoldable pub settingsLine : List ℕ → SettingsLine
-settingsLine line = four settings.Bad settingsOf (split (code ",") line)
+settingsLine line = four settings.Bad settingsOf (fieldsOf line)
 
 -- ---- the changes
 
@@ -63,4 +63,4 @@ changeOf time tag sign value =
     given change.Bad (readingOf value) (λ v. bySign (signOf sign) t g v)))
 
 unfoldable pub changeLine : List ℕ → Line
-changeLine line = four change.Bad changeOf (split (code ",") line)
+changeLine line = four change.Bad changeOf (fieldsOf line)

@@ -1,4 +1,4 @@
--- THE LINES OF AN INPUT (document 01, "The console program"), and the same lines gathered byte by byte through a buffer of 80 bytes.
+-- THE LINES OF AN INPUT (document 01, "The console program"), and the same lines gathered byte by byte through a buffer of a line's length.
 use mathlib.Core.Path.{_≡_}
 use mathlib.Core.Bool.{Bool, true, false, cond, not}
 use mathlib.Core.List.{List, [], _∷_}
@@ -19,8 +19,11 @@ pub data Text : Type 0 where
   tooLong : Text
 
 -- "have at most 80 bytes"
+abbrev pub lineMost : ℕ
+lineMost = 80
+
 unfoldable pub textOf : List ℕ → Text
-textOf bytes = cond (leb (length bytes) 80) (whole bytes) tooLong
+textOf bytes = cond (leb (length bytes) lineMost) (whole bytes) tooLong
 
 -- "Lines end with a newline (the last may lack it)": nothing after the last newline is no line.
 unfoldable pub ended : List (List ℕ) → List Text
@@ -40,15 +43,15 @@ newLine = record { len = 0; long = false }
 unfoldable pub leftOver : Gather → Bool
 leftOver g = not (eqb (g .len) 0)
 
--- One byte more. There is no room beyond 80.
+-- One byte more. There is no room beyond lineMost.
 unfoldable pub grown : Gather → Gather
-grown g = cond (leb 80 (g .len)) (record { len = g .len; long = true }) (record { len = g .len + 1; long = g .long })
+grown g = cond (leb lineMost (g .len)) (record { len = g .len; long = true }) (record { len = g .len + 1; long = g .long })
 
 unfoldable pub fedAnswer : Gather → ℕ → Fed
 fedAnswer g x = cond (eqb x (code "\n")) LineEnd (More (grown g))
 
 unfoldable pub fedLine : Gather → List ℕ → ℕ → List ℕ
-fedLine g line x = cond (eqb x (code "\n")) line (cond (leb 80 (g .len)) line (set line (g .len) x))
+fedLine g line x = cond (eqb x (code "\n")) line (cond (leb lineMost (g .len)) line (set line (g .len) x))
 
 -- A byte's answer and the buffer after it.
 pub record Feeds (g : Gather) (before : List ℕ) (x : ℕ) (r : Fed) (after : List ℕ) : Type 0 where

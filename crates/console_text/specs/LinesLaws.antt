@@ -15,41 +15,9 @@ use Rattle.console_text.specs.declared.gather.Fed.{Fed}
 use Rattle.console_text.specs.declared.gather.Fed.the-variants.{More, LineEnd}
 use Rattle.console_text.specs.Fields.{ontoFirst, split}
 use Rattle.console_text.specs.FieldsLaws.{split-some, onto-none, onto-onto}
-use Rattle.console_text.specs.Lines.{textOf, ended, linesOf, newLine, leftOver, grown, fedAnswer, fedLine, Feeds, lineText, onFed, gathered}
+use Rattle.console_text.specs.Lines.{lineMost, textOf, ended, linesOf, newLine, leftOver, grown, fedAnswer, fedLine, Feeds, lineText, onFed, gathered}
 
--- ---- a place in the buffer
-
--- A line so far has at most 80 bytes in the buffer, and a byte keeps it so.
-pub new-within : newLine .len ≤ 80
-unfolding newLine
-new-within = omega arith
-
-pub grown-within : (g : Gather) → g .len ≤ 80 → grown g .len ≤ 80
-unfolding grown
-grown-within g h = lt? (g .len) 80
-    (λ a. rw (lt-leb 80 (g .len) a) (omega arith)) (λ a. rw (le-leb 80 (g .len) a) h)
-
-pub fed-within : {g h : Gather} {before after : List ℕ} {x : ℕ} {r : Fed} → Feeds g before x r after → r ≡ More h
-    → g .len ≤ 80 → h .len ≤ 80
-unfolding fedAnswer
-fed-within {g} {h} {x = x} {r} f e l = is? x 10
-    (λ a. let z : LineEnd ≡ More h = sym (f .answer ∙ rw (eq-eqb x 10 a)) ∙ e in absurd (omega (arith, never h z)))
-    (λ n. let z : More (grown g) ≡ More h = sym (f .answer ∙ rw (ne-eqb x 10 n)) ∙ e in
-    rw (same (grown g) h z) at (grown-within g l))
-  where
-    never : (h : Gather) → LineEnd ≡ More h → _≡_ {A = ℕ} 0 1
-    never h e = cc
-
-    same : (h k : Gather) → More h ≡ More k → h ≡ k
-    same h k e = cc
-
--- The buffer keeps its length.
-pub fed-length : {g : Gather} {before after : List ℕ} {x : ℕ} {r : Fed} → Feeds g before x r after → length after ≡ length before
-unfolding fedLine
-fed-length {g} {before} {after} {x} {r} f = ap length (f .buffer) ∙ is? x 10
-    (λ e. rw (eq-eqb x 10 e))
-    (λ n. rw (ne-eqb x 10 n) (lt? (g .len) 80
-    (λ a. rw (lt-leb 80 (g .len) a) (length-set before (g .len) x)) (λ a. rw (le-leb 80 (g .len) a))))
+-- ---- a byte
 
 -- What a byte does: ends the line, is skipped, or is stored.
 module _ (g : Gather) (line : List ℕ) (x : ℕ) where
@@ -57,33 +25,33 @@ module _ (g : Gather) (line : List ℕ) (x : ℕ) where
   unfolding fedAnswer fedLine
   fed-end e = record { answer = rw (eq-eqb x 10 e); buffer = rw (eq-eqb x 10 e) }
 
-  pub fed-skip : (x ≡ 10 → ⊥) → 80 ≤ g .len → Feeds g line x (More (record { len = g .len; long = true })) line
+  pub fed-skip : (x ≡ 10 → ⊥) → lineMost ≤ g .len → Feeds g line x (More (record { len = g .len; long = true })) line
   unfolding fedAnswer fedLine grown
   fed-skip n h = record {
-    answer = rw (ne-eqb x 10 n, le-leb 80 (g .len) h);
-    buffer = rw (ne-eqb x 10 n, le-leb 80 (g .len) h);
+    answer = rw (ne-eqb x 10 n, le-leb lineMost (g .len) h);
+    buffer = rw (ne-eqb x 10 n, le-leb lineMost (g .len) h);
   }
 
-  pub fed-store : (x ≡ 10 → ⊥) → g .len < 80
+  pub fed-store : (x ≡ 10 → ⊥) → g .len < lineMost
       → Feeds g line x (More (record { len = g .len + 1; long = g .long })) (set line (g .len) x)
   unfolding fedAnswer fedLine grown
   fed-store n h = record {
-    answer = rw (ne-eqb x 10 n, lt-leb 80 (g .len) h);
-    buffer = rw (ne-eqb x 10 n, lt-leb 80 (g .len) h);
+    answer = rw (ne-eqb x 10 n, lt-leb lineMost (g .len) h);
+    buffer = rw (ne-eqb x 10 n, lt-leb lineMost (g .len) h);
   }
 
 -- ---- the line so far
 
 -- The bytes since the last newline: all of them, or that they are too many.
-record Holds (g : Gather) (line p : List ℕ) : Type 0 where
-  room : length line ≡ 80
-  len : length p ≤ 80 → g .len ≡ length p
-  short : length p ≤ 80 → g .long ≡ false
-  bytes : length p ≤ 80 → take (length p) line ≡ p
-  full : 80 < length p → g .len ≡ 80
-  over : 80 < length p → g .long ≡ true
+record HoldsLine (g : Gather) (line p : List ℕ) : Type 0 where
+  room : length line ≡ lineMost
+  len : length p ≤ lineMost → g .len ≡ length p
+  short : length p ≤ lineMost → g .long ≡ false
+  bytes : length p ≤ lineMost → take (length p) line ≡ p
+  full : lineMost < length p → g .len ≡ lineMost
+  over : lineMost < length p → g .long ≡ true
 
-holds-new : (line : List ℕ) → length line ≡ 80 → Holds newLine line []
+holds-new : (line : List ℕ) → length line ≡ lineMost → HoldsLine newLine line []
 unfolding newLine
 holds-new line e = record {
   room = e;
@@ -94,12 +62,12 @@ holds-new line e = record {
   over = λ h. absurd (omega arith);
 }
 
-module _ {g : Gather} {line p : List ℕ} (o : Holds g line p) where
+module _ {g : Gather} {line p : List ℕ} (o : HoldsLine g line p) where
   holds-text : lineText g line ≡ textOf p
   unfolding lineText textOf
-  holds-text = lt? 80 (length p)
-      (λ h. rw (o .over h, lt-leb (length p) 80 h))
-      (λ h. rw (o .short h, o .len h, o .bytes h, le-leb (length p) 80 h))
+  holds-text = lt? lineMost (length p)
+      (λ h. rw (o .over h, lt-leb (length p) lineMost h))
+      (λ h. rw (o .short h, o .len h, o .bytes h, le-leb (length p) lineMost h))
 
   holds-last : cond (leftOver g) (lineText g line ∷ []) [] ≡ ended (p ∷ [])
   unfolding leftOver ended
@@ -112,7 +80,7 @@ module _ {g : Gather} {line p : List ℕ} (o : Holds g line p) where
       some n = rw (ne-eqb (length p) 0 n, ne-eqb (g .len) 0 nonzero)
         where
           nonzero : g .len ≡ 0 → ⊥
-          nonzero e = lt? 80 (length p) (λ h. omega (arith, o .full h)) (λ h. n (sym (o .len h) ∙ e))
+          nonzero e = lt? lineMost (length p) (λ h. omega (arith, o .full h)) (λ h. n (sym (o .len h) ∙ e))
 
   -- A byte more of the line.
   module _ (x : ℕ) (n : (x ≡ 10 → ⊥)) where
@@ -120,11 +88,11 @@ module _ {g : Gather} {line p : List ℕ} (o : Holds g line p) where
     longer = simp length-append
 
     -- There is room.
-    room-left : length p < 80 → Holds (grown g) (fedLine g line x) (p ++ (x ∷ []))
+    room-left : length p < lineMost → HoldsLine (grown g) (fedLine g line x) (p ++ (x ∷ []))
     unfolding grown fedLine
     room-left h =
         let l : g .len ≡ length p = o .len (omega arith) in
-        let t : leb 80 (g .len) ≡ false = lt-leb 80 (g .len) (omega arith) in
+        let t : leb lineMost (g .len) ≡ false = lt-leb lineMost (g .len) (omega arith) in
         let k : take (length p + 1) (set line (length p) x) ≡ p ++ (x ∷ []) =
         rw (add-one (length p)) (take-suc-set line (length p) x (omega (arith, o .room)) ∙ rw (o .bytes (omega arith))) in
         rw (t, ne-eqb x 10 n, l) (record {
@@ -137,11 +105,11 @@ module _ {g : Gather} {line p : List ℕ} (o : Holds g line p) where
         })
 
     -- There is none: the line is too long from here on.
-    room-none : 80 ≤ length p → Holds (grown g) (fedLine g line x) (p ++ (x ∷ []))
+    room-none : lineMost ≤ length p → HoldsLine (grown g) (fedLine g line x) (p ++ (x ∷ []))
     unfolding grown fedLine
     room-none h =
-        let l : g .len ≡ 80 = lt? 80 (length p) (o .full) (λ a. o .len a ∙ (omega arith)) in
-        let t : leb 80 (g .len) ≡ true = le-leb 80 (g .len) (omega arith) in
+        let l : g .len ≡ lineMost = lt? lineMost (length p) (o .full) (λ a. o .len a ∙ (omega arith)) in
+        let t : leb lineMost (g .len) ≡ true = le-leb lineMost (g .len) (omega arith) in
         rw (t, ne-eqb x 10 n) (record {
           room = o .room;
           len = λ a. absurd (omega (arith, longer));
@@ -151,8 +119,8 @@ module _ {g : Gather} {line p : List ℕ} (o : Holds g line p) where
           over = λ a. refl;
         })
 
-    holds-fed : Holds (grown g) (fedLine g line x) (p ++ (x ∷ []))
-    holds-fed = lt? (length p) 80 room-left room-none
+    holds-fed : HoldsLine (grown g) (fedLine g line x) (p ++ (x ∷ []))
+    holds-fed = lt? (length p) lineMost room-left room-none
 
 -- ---- the whole input
 
@@ -163,11 +131,11 @@ ended-more p (q ∷ parts) h = refl
 
 -- A newline takes the line out, and any other byte goes on with it.
 module _ (g : Gather) (line : List ℕ) (x : ℕ) (rest : List ℕ) where
-  gathered-end : x ≡ 10 → gathered g line (x ∷ rest) ≡ lineText g line ∷ gathered newLine line rest
+  pub gathered-end : x ≡ 10 → gathered g line (x ∷ rest) ≡ lineText g line ∷ gathered newLine line rest
   unfolding gathered onFed fedAnswer fedLine
   gathered-end e = rw (eq-eqb x 10 e)
 
-  gathered-on : (x ≡ 10 → ⊥) → gathered g line (x ∷ rest) ≡ gathered (grown g) (fedLine g line x) rest
+  pub gathered-on : (x ≡ 10 → ⊥) → gathered g line (x ∷ rest) ≡ gathered (grown g) (fedLine g line x) rest
   unfolding gathered onFed fedAnswer
   gathered-on n = rw (ne-eqb x 10 n)
 
@@ -187,7 +155,7 @@ parts-last : (p : List ℕ) → ontoFirst p (split 10 []) ≡ p ∷ []
 unfolding split ontoFirst
 parts-last p = rw append-nil
 
-gathers : (input : List ℕ) {g : Gather} {line p : List ℕ} → Holds g line p
+gathers : (input : List ℕ) {g : Gather} {line p : List ℕ} → HoldsLine g line p
     → gathered g line input ≡ ended (ontoFirst p (split 10 input))
 gathers [] {g} {line} {p} o = gathered-none g line ∙ holds-last o ∙ ap ended (sym (parts-last p))
 gathers (x ∷ rest) {g} {line} {p} o = is? x 10
@@ -202,6 +170,6 @@ gathers (x ∷ rest) {g} {line} {p} o = is? x 10
     (λ n. rw (parts-on g line x rest p n, gathered-on g line x rest n) (gathers rest (holds-fed o x n)))
 
 -- FEEDING EVERY BYTE OF AN INPUT, FROM A NEW LINE ON, GIVES THE INPUT'S LINES, whatever the buffer held.
-pub gathered-lines : (input line : List ℕ) → length line ≡ 80 → gathered newLine line input ≡ linesOf input
+pub gathered-lines : (input line : List ℕ) → length line ≡ lineMost → gathered newLine line input ≡ linesOf input
 unfolding linesOf
 gathered-lines input line e = gathers input (holds-new line e) ∙ ap ended (onto-none 10 input)

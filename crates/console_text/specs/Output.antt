@@ -46,7 +46,7 @@ badLine number = line 0 (bytes "bad") number (decimal 0)
 -- ---- what printing leaves
 
 -- A buffer of 64 bytes has room for every line. In a shorter one nothing is printed.
-unfoldable pub lineRoom : ℕ
+abbrev pub lineRoom : ℕ
 lineRoom = 64
 
 -- How many bytes are printed.

@@ -1,13 +1,13 @@
 -- Output lines put together from their pieces.
 use mathlib.Core.Path.{_≡_, refl, sym, _∙_}
-use mathlib.Core.List.{List, [], _∷_}
+use mathlib.Core.List.{List, [], _∷_, _++_, append-assoc}
 use Prim.Native.Nat.{ℕ, _+_, _-_, _/_, _%_, _^_, _≤_, _<_}
 use native.Mathlib.Omega.{arith}
 use lib.ListN.{length}
 use lib.Seq.{length-take-le}
 use borrow.Author.Tests.{lt-ltb, le-ltb, le-leb, lt-leb}
 use Rattle.base.specs.Branch.{lt?}
-use Rattle.console_text.specs.Decimal.{digitByte}
+use Rattle.console_text.specs.Decimal.{digitByte, decimal}
 use Rattle.console_text.specs.Reading.{isBelow, sizeOf, tenthsOf, signBytes, knBytes}
 use Rattle.console_text.specs.Output.{comma, newline, lineStart, line, lineRoom, printedLen, printedBytes, Printed}
 use Rattle.console_text.specs.PieceLaws.{Piece, piece-none, piece-then}
@@ -60,15 +60,17 @@ pub record PutKn (reading at : ℕ) (before : List ℕ) (end : ℕ) (after : Lis
   pub piece : Piece (knBytes reading) at before end after
   pub most : end ≤ at + 13
 
--- Sign, whole kN, point, tenth.
-pub kn-put : {reading at a b d e x : ℕ} {l₀ l₁ l₂ l₃ l₄ : List ℕ} → reading < 2 ^ 32
-    → PutSign reading at l₀ a l₁ → PutNumber (tenthsOf reading / 10) a l₁ b l₂ → Piece (46 ∷ []) b l₂ d l₃
-    → x ≡ digitByte (tenthsOf reading % 10) → Piece (x ∷ []) d l₃ e l₄ → PutKn reading at l₀ e l₄
+-- Sign, whole kN with its point, tenth.
+pub kn-put : {reading at a b e x : ℕ} {l₀ l₁ l₂ l₃ : List ℕ} → reading < 2 ^ 32
+    → PutSign reading at l₀ a l₁ → PutNumber (tenthsOf reading / 10) 46 a l₁ b l₂
+    → x ≡ digitByte (tenthsOf reading % 10) → Piece (x ∷ []) b l₂ e l₃ → PutKn reading at l₀ e l₃
 unfolding knBytes
-kn-put {reading} {at} f s w p g t =
+kn-put {reading} {at} f s w g t =
+    let whole = decimal (tenthsOf reading / 10) in
+    let p = rw (append-assoc whole (46 ∷ []) (digitByte (tenthsOf reading % 10) ∷ [])) at (piece-then (w .piece) (rw g at t)) in
     record {
-      piece = piece-then (s .piece) (piece-then (w .piece) (piece-then p (rw g at t)));
-      most = omega (arith, s .most, w .word (omega (arith, tenths-small reading f)), p .ends, t .ends);
+      piece = piece-then (s .piece) p;
+      most = omega (arith, s .most, w .word (omega (arith, tenths-small reading f)), t .ends);
     }
 
 -- ---- a line's start
@@ -78,44 +80,44 @@ pub record Started (time : ℕ) (kind : List ℕ) (first : ℕ) (before : List �
   pub piece : Piece (lineStart time kind first) 0 before end after
   pub most : end ≤ 36
 
-pub start-put : {time first a b d e f g : ℕ} {kind l₀ l₁ l₂ l₃ l₄ l₅ l₆ : List ℕ} → time < 2 ^ 32 → length kind ≤ 3
-    → PutNumber time 0 l₀ a l₁ → Piece comma a l₁ b l₂ → Piece kind b l₂ d l₃ → Piece comma d l₃ e l₄
-    → PutNumber first e l₄ f l₅ → Piece comma f l₅ g l₆ → Started time kind first l₀ g l₆
+pub start-put : {time first a b d e : ℕ} {kind l₀ l₁ l₂ l₃ l₄ : List ℕ} → time < 2 ^ 32 → length kind ≤ 3
+    → PutNumber time 44 0 l₀ a l₁ → Piece kind a l₁ b l₂ → Piece comma b l₂ d l₃ → PutNumber first 44 d l₃ e l₄
+    → Started time kind first l₀ e l₄
 unfolding lineStart
-start-put h k t c₁ w c₂ n c₃ =
+start-put {time} {first} {kind = kind} h k t w c n =
+    let rest = kind ++ (comma ++ (decimal first ++ comma)) in
     record {
-      piece = piece-then (t .piece) (piece-then c₁ (piece-then w (piece-then c₂ (piece-then (n .piece) c₃))));
-      most = omega (arith, t .word h, c₁ .ends, w .ends, c₂ .ends, n .most, c₃ .ends);
+      piece = rw (append-assoc (decimal time) comma rest) at (piece-then (t .piece) (piece-then w (piece-then c (n .piece))));
+      most = omega (arith, t .word h, w .ends, c .ends, n .most);
     }
 
 -- ---- a whole line
 
 -- A buffer that is too short is left as it is.
-pub printed-not : (text before : List ℕ) → length before < 64 → Printed text before 0 before
-unfolding printedLen printedBytes lineRoom
+pub printed-not : (text before : List ℕ) → length before < lineRoom → Printed text before 0 before
+unfolding printedLen printedBytes
 printed-not text before h = record {
-  count = rw (lt-ltb (length before) 64 h);
-  buffer = rw (lt-ltb (length before) 64 h);
+  count = rw (lt-ltb (length before) lineRoom h);
+  buffer = rw (lt-ltb (length before) lineRoom h);
   within = omega arith;
   taken = refl;
 }
 
 -- A piece from the start on is the line that is printed.
-pub printed : {text before after : List ℕ} {end : ℕ} → 64 ≤ length before → Piece text 0 before end after
+pub printed : {text before after : List ℕ} {end : ℕ} → lineRoom ≤ length before → Piece text 0 before end after
     → Printed text before end after
-unfolding printedLen printedBytes lineRoom
+unfolding printedLen printedBytes
 printed {text} {before} {after} {end} h p =
     let e : end ≡ length text = omega (arith, p .ends) in
     record {
-      count = rw (le-ltb (length before) 64 h) e;
-      buffer = rw (le-ltb (length before) 64 h) (p .bytes ∙ rw e);
+      count = rw (le-ltb (length before) lineRoom h) e;
+      buffer = rw (le-ltb (length before) lineRoom h) (p .bytes ∙ rw e);
       within = omega (arith, p .fits, p .long);
       taken = sym (length-take-le end after (omega (arith, p .fits, p .long)));
     }
 
--- A start, the second field and the newline are a line.
-pub line-put : {time first a b e : ℕ} {kind second l₀ l₁ l₂ l₃ : List ℕ} → 64 ≤ length l₀
-    → Started time kind first l₀ a l₁ → Piece second a l₁ b l₂ → Piece newline b l₂ e l₃
-    → Printed (line time kind first second) l₀ e l₃
+-- A start, and the second field with the newline, are a line.
+pub line-put : (second : List ℕ) {time first a e : ℕ} {kind l₀ l₁ l₂ : List ℕ} → lineRoom ≤ length l₀
+    → Started time kind first l₀ a l₁ → Piece (second ++ newline) a l₁ e l₂ → Printed (line time kind first second) l₀ e l₂
 unfolding line
-line-put h s f n = printed h (piece-then (s .piece) (piece-then f n))
+line-put second h s f = printed h (piece-then (s .piece) f)

@@ -1,11 +1,12 @@
 -- Pieces put into a buffer one after another: together they are one piece.
-use mathlib.Core.Path.{_≡_, refl, sym, _∙_}
-use mathlib.Core.List.{List, [], _∷_, _++_, append-assoc}
-use Prim.Native.Nat.{ℕ, _+_, _≤_, _<_}
+use mathlib.Core.Path.{_≡_, refl, sym, ap, _∙_}
+use mathlib.Core.List.{List, [], _∷_, _++_, append-assoc, append-nil}
+use Prim.Native.Nat.{ℕ, _+_, _-_, _≤_, _<_}
 use native.Mathlib.Omega.{arith}
 use native.Mathlib.Numerals.{add-one}
-use lib.ListN.{length, take, drop, getD, set, length-append, length-set, take-append-drop}
-use lib.Seq.{take-at, drop-at, take-all, take-suc, length-take-le, set-split, drop-drop}
+use lib.ListN.{length, take, drop, set, length-append, length-set, length-take, take-append-drop, drop-of-length-le}
+use lib.Seq.{take-at, drop-at, take-all, length-take-le, set-split, drop-drop}
+use borrow.Rule.Slice.PartMut.{putMid, same-len-mid, mid-len, post-is}
 
 -- `after` is `before` with the piece from `at` on, and `end` is the place after it.
 pub record Piece (piece : List ℕ) (at : ℕ) (before : List ℕ) (end : ℕ) (after : List ℕ) : Type 0 where
@@ -61,26 +62,18 @@ piece-then {a} {b} {before} {mid} {after} {at} {m} {end} p q = record {
     regroup : (x y z w : List ℕ) → (x ++ y) ++ (z ++ w) ≡ x ++ ((y ++ z) ++ w)
     regroup x y z w = simp append-assoc
 
--- ---- a text, byte by byte
-
--- The first i bytes of a text stand at `at`.
-pub record PutTo (text : List ℕ) (at : ℕ) (before : List ℕ) (i : ℕ) (after : List ℕ) : Type 0 where
-  pub within : i ≤ length text
-  pub piece : Piece (take i text) at before (at + i) after
-
-pub put-none : (text before : List ℕ) (at : ℕ) → at + length text ≤ length before → PutTo text at before 0 before
-put-none text before at h =
-    let e : at + 0 ≡ at = omega arith in
-    record { within = omega arith; piece = rw e (piece-none before at (omega arith)) }
-
-module _ {text before mid : List ℕ} {at i : ℕ} (p : PutTo text at before i mid) where
-  pub put-next : i < length text → at + length text ≤ length before
-      → PutTo text at before (i + 1) (set mid (at + i) (getD text i 0))
-  put-next h f =
-      let e : at + (i + 1) ≡ at + i + 1 = omega arith in
-      let t : take (i + 1) text ≡ take i text ++ (getD text i 0 ∷ []) = rw (add-one i) (take-suc text i 0 h) in
-      let l : at + i < length mid = omega (arith, p .piece .long) in
-      record { within = omega arith; piece = rw (e, t) (piece-then (p .piece) (piece-byte mid (at + i) (getD text i 0) l)) }
-
-  pub put-whole : length text ≤ i → Piece text at before (at + i) mid
-  put-whole h = rw (take-all i text h) at (p .piece)
+-- A text is a piece where the part lent for it comes back as the text, and then what was left of the part: nothing.
+pub piece-copied : (text before : List ℕ) (at : ℕ) {part : List ℕ} → at + length text ≤ length before
+    → part ≡ take (length text) text ++ drop (length text) (take (at + length text - at) (drop at before))
+    → Piece text at before (at + length text) (putMid at (at + length text - at) before part)
+piece-copied text before at {part} h e =
+    let k : at + length text - at ≡ length text = omega arith in
+    let mid : List ℕ = take (at + length text - at) (drop at before) in
+    let is : part ≡ text =
+    e ∙ rw (take-all (length text) text (omega arith), drop-of-length-le mid {i = length text} (simp length-take (omega arith)), append-nil) in
+    record {
+      ends = refl;
+      fits = h;
+      long = same-len-mid at (at + length text - at) before part (ap length is ∙ sym (mid-len at (at + length text) before h ∙ k));
+      bytes = rw (is, post-is at (at + length text) before (omega arith));
+    }

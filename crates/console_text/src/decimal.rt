@@ -1,10 +1,11 @@
 // Plain decimals: a field read as a number, and a number put into a buffer as digits.
+use crate::piece::put_byte;
 use crate::piece::put_text;
 ghost use mathlib.Core.Path.{_≡_};
 ghost use Prim.Native.Nat.{_+_, _≤_, _<_};
 ghost use lib.ListN.{length};
 ghost use Rattle.console_text.specs.Decimal.{digitByte, spareZero, numberOf, wordOf, readingOf, negated};
-ghost use Rattle.console_text.specs.DigitsLaws.{Digits, PutNumber};
+ghost use Rattle.console_text.specs.DigitsLaws.{PutNumber};
 
 // The largest word, the largest reading, and the largest one below zero, its minus aside.
 const MOST_WORD: u32 = 4294967295;
@@ -107,28 +108,13 @@ pub(crate) fn digit(d: u64) -> u8
     48 + d as u8
 }
 
-// The digits of n, at the end of `text`; answers where they begin. Twenty places hold every u64.
-fn digits(n: u64, text: &mut [u8]) -> usize
-    requires { ⌜ length (now text) ≡ 20 ⌝ }
-    ensures { λ r. ⌜ Digits n r (now (text .exit)) ⌝ }
-{
-    let mut rest = n;
-    let mut i = 19;
-    while 9 < rest {
-        text[i] = digit(rest % 10);
-        rest /= 10;
-        i -= 1;
-    }
-    text[i] = digit(rest);
-    i
-}
-
-// A number's decimal at `at`; answers the place after it.
-pub(crate) fn put_decimal(out: &mut [u8], at: usize, n: u64) -> usize
-    requires { ⌜ at + 20 ≤ length (now out) ⌝ }
-    ensures { λ r. ⌜ PutNumber n at (now (out .entry)) r (now (out .exit)) ⌝ }
+// A number's decimal at `at` and a byte after it; answers the place after both.
+pub(crate) fn put_number(out: &mut [u8], at: usize, n: u64, last: u8) -> usize
+    requires { ⌜ at + 21 ≤ length (now out) ⌝ }
+    ensures { λ r. ⌜ PutNumber n last at (now (out .entry)) r (now (out .exit)) ⌝ }
 {
     let mut text = [0u8; 20];
-    let start = digits(n, &mut text);
-    put_text(out, at, &text[start..])
+    let count = io::decimal(n, &mut text);
+    let end = put_text(out, at, &text[..count]);
+    put_byte(out, end, last)
 }

@@ -1,14 +1,17 @@
 // An input line read: a names line, the settings, or a change. Any other line is Bad.
 use crate::decimal;
 use crate::decimal::Number;
+use bytes::scan;
 ghost use mathlib.Core.Path.{_≡_};
 ghost use mathlib.Core.Bool.{true};
-ghost use Prim.Native.Nat.{_≤_};
 ghost use lib.ListN.{length};
 ghost use Rattle.console_text.specs.Input.{settingsNames, changeNames, settingsOf, settingsLine, bySign, signOf, changeOf, changeLine};
-ghost use Rattle.console_text.specs.FieldsLaws.{NextComma, CutAt};
+ghost use Rattle.console_text.specs.Fields.{fieldsOf, firstField, afterField};
 
 const COMMA: u8 = b',';
+
+// A line of settings or of a change has so many fields.
+const FIELDS: usize = 4;
 
 // The values of the second line.
 pub enum SettingsLine {
@@ -32,12 +35,6 @@ pub enum Line {
     Bad,
 }
 
-// Where a line's three commas stand, if it has exactly three.
-enum Cuts {
-    Four(usize, usize, usize),
-    Other,
-}
-
 pub fn is_settings_names(line: &[u8]) -> bool
     ensures { λ r. ⌜ (r ≡ true → now (line .entry) ≡ settingsNames) × (now (line .entry) ≡ settingsNames → r ≡ true) ⌝ }
 {
@@ -50,41 +47,41 @@ pub fn is_change_names(line: &[u8]) -> bool
     check::same(line, b"time,tag,sign,value")
 }
 
-// The first comma from `from` on; the line's length if there is none.
-fn next_comma(line: &[u8], from: usize) -> usize
-    requires { ⌜ from ≤ length (now line) ⌝ }
-    ensures { λ r. ⌜ NextComma (now (line .entry)) from r ⌝ }
+// How many fields a line has: one more than commas.
+fn field_count(line: &[u8]) -> usize
+    ensures { λ r. ⌜ r ≡ length (fieldsOf (now (line .entry))) ⌝ }
 {
-    let mut i = from;
+    let mut count = 1;
+    let mut i = 0;
     while i < line.len() {
-        if line[i] == COMMA {
-            return i;
-        }
+        let byte = line[i];
         i += 1;
+        if byte != COMMA {
+            continue;
+        }
+        count += 1;
     }
-    i
+    count
 }
 
-// A line's three commas.
-fn cuts_of(line: &[u8]) -> Cuts
-    ensures { λ r. ⌜ CutAt (now (line .entry)) r ⌝ }
+// The field before the first comma; the whole line if there is none.
+fn first_field(line: &[u8]) -> &[u8]
+    ensures { λ r. ⌜ now r ≡ firstField (now (line .entry)) ⌝ }
 {
-    let i = next_comma(line, 0);
-    if i == line.len() {
-        return Cuts::Other;
+    let end = scan::find(line, 0, line.len(), COMMA);
+    &line[..end]
+}
+
+// What follows the first comma; nothing if there is none.
+fn after_field(line: &[u8]) -> &[u8]
+    ensures { λ r. ⌜ now r ≡ afterField (now (line .entry)) ⌝ }
+{
+    let end = scan::find(line, 0, line.len(), COMMA);
+    if end == line.len() {
+        return &line[end..];
     }
-    let j = next_comma(line, i + 1);
-    if j == line.len() {
-        return Cuts::Other;
-    }
-    let k = next_comma(line, j + 1);
-    if k == line.len() {
-        return Cuts::Other;
-    }
-    if next_comma(line, k + 1) < line.len() {
-        return Cuts::Other;
-    }
-    Cuts::Four(i, j, k)
+    let next = end + 1;
+    &line[next..]
 }
 
 // Four words.
@@ -110,20 +107,17 @@ fn settings_of(block: &[u8], useful: &[u8], blocks: &[u8], tags: &[u8]) -> Setti
 pub fn parse_settings(line: &[u8]) -> SettingsLine
     ensures { λ r. ⌜ r ≡ settingsLine (now (line .entry)) ⌝ }
 {
-    match cuts_of(line) {
-        Cuts::Four(i, j, k) => {
-            let second = i + 1;
-            let third = j + 1;
-            let fourth = k + 1;
-            settings_of(
-                &line[..i],
-                &line[second..j],
-                &line[third..k],
-                &line[fourth..],
-            )
-        }
-        Cuts::Other => SettingsLine::Bad,
+    if field_count(line) != FIELDS {
+        return SettingsLine::Bad;
     }
+    let second = after_field(line);
+    let third = after_field(second);
+    settings_of(
+        first_field(line),
+        first_field(second),
+        first_field(third),
+        after_field(third),
+    )
 }
 
 // The one byte of a sign; 0 for any other field.
@@ -184,18 +178,15 @@ fn change_of(time: &[u8], tag: &[u8], sign: &[u8], value: &[u8]) -> Line
 pub fn parse_change(line: &[u8]) -> Line
     ensures { λ r. ⌜ r ≡ changeLine (now (line .entry)) ⌝ }
 {
-    match cuts_of(line) {
-        Cuts::Four(i, j, k) => {
-            let second = i + 1;
-            let third = j + 1;
-            let fourth = k + 1;
-            change_of(
-                &line[..i],
-                &line[second..j],
-                &line[third..k],
-                &line[fourth..],
-            )
-        }
-        Cuts::Other => Line::Bad,
+    if field_count(line) != FIELDS {
+        return Line::Bad;
     }
+    let second = after_field(line);
+    let third = after_field(second);
+    change_of(
+        first_field(line),
+        first_field(second),
+        first_field(third),
+        after_field(third),
+    )
 }

@@ -9,12 +9,9 @@ pub(crate) fn put_text(out: &mut [u8], at: usize, text: &[u8]) -> usize
     requires { ⌜ at + length (now text) ≤ length (now out) ⌝ }
     ensures { λ r. ⌜ Piece (now (text .entry)) at (now (out .entry)) r (now (out .exit)) ⌝ }
 {
-    let mut i = 0;
-    while i < text.len() {
-        out[at + i] = text[i];
-        i += 1;
-    }
-    at + i
+    let end = at + text.len();
+    bytes::copy(text, &mut out[at..end]);
+    end
 }
 
 // One byte at `at`; answers the place after it.

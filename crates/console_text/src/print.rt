@@ -1,7 +1,7 @@
 // The output lines. A buffer of fewer than LINE_ROOM bytes is left as it is and the answer is 0; else the line stands at its start with its
 // newline, the rest of the buffer keeps its contents, and the answer is the line's length.
 use crate::decimal::digit;
-use crate::decimal::put_decimal;
+use crate::decimal::put_number;
 use crate::piece::put_byte;
 use crate::piece::put_text;
 ghost use mathlib.Core.Path.{_≡_};
@@ -9,7 +9,7 @@ ghost use Prim.Native.Nat.{_+_, _≤_};
 ghost use lib.ListN.{length};
 ghost use Rattle.console_text.specs.Reading.{tenthsOf};
 ghost use Rattle.console_text.specs.Decimal.{decimal};
-ghost use Rattle.console_text.specs.Output.{outputNames, line, rowLine, sumLine, noLine, badLine, Printed};
+ghost use Rattle.console_text.specs.Output.{outputNames, line, rowLine, sumLine, noLine, badLine, lineRoom, Printed};
 ghost use Rattle.console_text.specs.OutputLaws.{PutSign, PutKn, Started};
 
 pub const LINE_ROOM: usize = 64;
@@ -71,21 +71,18 @@ fn put_numbers(out: &mut [u8], time: u32, kind: &[u8], first: u64, second: u64) 
         return 0;
     }
     let start = put_start(out, time, kind, first);
-    let end = put_decimal(out, start, second);
-    put_byte(out, end, b'\n')
+    put_number(out, start, second, b'\n')
 }
 
 // A line's time, kind and first field, each with its comma.
 fn put_start(out: &mut [u8], time: u32, kind: &[u8], first: u64) -> usize
-    requires { ⌜ (length (now kind) ≤ 3) × (64 ≤ length (now out)) ⌝ }
+    requires { ⌜ (length (now kind) ≤ 3) × (lineRoom ≤ length (now out)) ⌝ }
     ensures { λ r. ⌜ Started time (now (kind .entry)) first (now (out .entry)) r (now (out .exit)) ⌝ }
 {
-    let a = put_decimal(out, 0, time as u64);
-    let b = put_byte(out, a, b',');
-    let c = put_text(out, b, kind);
-    let d = put_byte(out, c, b',');
-    let e = put_decimal(out, d, first);
-    put_byte(out, e, b',')
+    let a = put_number(out, 0, time as u64, b',');
+    let b = put_text(out, a, kind);
+    let c = put_byte(out, b, b',');
+    put_number(out, c, first, b',')
 }
 
 // A reading in tenths of a kN.
@@ -95,8 +92,7 @@ fn put_kn(out: &mut [u8], at: usize, reading: u32) -> usize
 {
     let tenths = tenths_of(reading);
     let whole = put_sign(out, at, reading, tenths);
-    let point = put_decimal(out, whole, tenths / 10);
-    let tenth = put_byte(out, point, b'.');
+    let tenth = put_number(out, whole, tenths / 10, b'.');
     put_byte(out, tenth, digit(tenths % 10))
 }
 

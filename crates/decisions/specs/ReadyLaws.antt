@@ -1,17 +1,15 @@
 -- What a call that may go on finds: no refusal of its table applies, as facts about the words.
 use mathlib.Core.Path.{_≡_, refl, _∙_, subst⁻¹}
-use mathlib.Core.Bool.{false}
 use mathlib.Core.List.{List, []}
 use Prim.Native.Nat.{ℕ, _≤_}
 use native.Mathlib.Omega.{arith}
 use lib.ListN.{length}
-use borrow.Author.Tests.{le-ltb, ltb-false, leb-false, eqb-true, eqb-false, not-false}
+use borrow.Author.Tests.{ltb-false, leb-false, eqb-true, eqb-false, not-false}
 use Rattle.base.specs.Sums.{nil, cons}
 use Rattle.layout.specs.declared.head.Head.{Head}
-use Rattle.layout.specs.declared.head.HeadAnswer.the-variants.{Read}
-use Rattle.layout.specs.Sizes.{headLen, layoutLen}
-use Rattle.layout.specs.Head.{headOf, badHead, headAnswer}
-use Rattle.layout.specs.HeadLaws.{HeadRead, head-read}
+use Rattle.layout.specs.Sizes.{layoutLen}
+use Rattle.layout.specs.Head.{headOf}
+use Rattle.layout.specs.HeadLaws.{HeadRead, passes-read, head-read}
 use Rattle.layout.specs.OnWords.{fits-held}
 use Rattle.calls.specs.Refusals.{Test, refusal, timeTests, setOwn, clearOwn, setTests, clearTests}
 use Rattle.calls.specs.Step.{wordsRead}
@@ -22,17 +20,13 @@ use Rattle.decisions.specs.TestLaws.{numbers, NoneApplies, none-applies}
 use Rattle.decisions.specs.VerdictLaws.{gone}
 
 -- ---- no test applies
-read-by : (ws : List ℕ) → headLen ≤ length ws → badHead ws ≡ false → headAnswer ws ≡ Read (headOf ws)
-unfolding headAnswer
-read-by ws l b = simp (le-ltb (length ws) headLen l, b)
-
 -- (The clock is below OPEN since the second is not before it.)
 none-time : {ws : List ℕ} {s : ℕ} {l : List Test} → NoneApplies (timeTests ws s l) → ReadyTime ws (headOf ws) s × NoneApplies l
 none-time {ws} {s} (cons a (cons b (cons c (cons d (cons e n))))) =
     let long : layoutLen (headOf ws .settings) ≤ length ws = ltb-false _ _ c in
     let known = leb-false _ s d in
     let later : headOf ws .cursor .clock ≤ s = ltb-false s _ e in
-    let head : HeadRead ws (headOf ws) = head-read ws (read-by ws (ltb-false _ _ a) b) (omega arith) in
+    let head : HeadRead ws (headOf ws) = head-read ws (passes-read ws (ltb-false _ _ a) b) (omega arith) in
     (record { ready = record { head = head; long = long; held = fits-held (record { long = long }) (head .sound .within) }; not-open = known; not-early = later }, n)
 
 none-set : {ws : List ℕ} {s tag : ℕ} → ReadyTime ws (headOf ws) s → NoneApplies (setOwn (headOf ws) (wordsRead ws) tag) → ReadySet ws (headOf ws) s tag

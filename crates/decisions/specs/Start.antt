@@ -6,6 +6,7 @@ use lib.Dec.{eqb, ltb}
 use lib.ListN.{length}
 use Rattle.layout.specs.declared.settings.Settings.{Settings}
 use Rattle.layout.specs.Sizes.{headLen, layoutLen}
+use Rattle.layout.specs.RefusalNumbers.{SHORT-HEAD, SHORT-STORE}
 use Rattle.calls.specs.Refusals.{Test, refusal}
 use Rattle.decisions.specs.declared.start.StartVerdict.{StartVerdict}
 use Rattle.decisions.specs.declared.start.StartVerdict.the-variants.{Go, Refused}
@@ -16,4 +17,4 @@ startVerdict l s = cond (eqb (refusal l) 0) (Go s) (Refused (refusal l))
 -- what `startTests` tests once the settings are within their limits
 abbrev pub startOwn : Settings → List ℕ → List Test
 startOwn s ws =
-    record { number = 2; applies = ltb (length ws) headLen } ∷ record { number = 4; applies = ltb (length ws) (layoutLen s) } ∷ []
+    record { number = SHORT-HEAD; applies = ltb (length ws) headLen } ∷ record { number = SHORT-STORE; applies = ltb (length ws) (layoutLen s) } ∷ []

@@ -10,9 +10,11 @@ use borrow.Author.Tests.{ltb-false, ne-eqb, not-false}
 use Rattle.base.specs.Branch.{by-test, by-eqb}
 use Rattle.base.specs.Sums.{nil, cons}
 use Rattle.layout.specs.declared.settings.Settings.{Settings}
+use Rattle.layout.specs.declared.settings.SettingsAnswer.{SettingsAnswer}
 use Rattle.layout.specs.declared.settings.SettingsAnswer.the-variants as answer
+use Rattle.layout.specs.RefusalNumbers.{SETTINGS}
 use Rattle.layout.specs.Sizes.{layoutLen}
-use Rattle.layout.specs.Settings.{settingsOf, inLimits, settingsAnswer, Within}
+use Rattle.layout.specs.Settings.{inLimits, settingsAnswer, Within}
 use Rattle.layout.specs.SettingsLaws.{limits-within}
 use Rattle.layout.specs.OnWords.{fits-held}
 use Rattle.calls.specs.Refusals.{Test, refusal, startTests}
@@ -21,41 +23,43 @@ use Rattle.decisions.specs.Start.{startVerdict, startOwn}
 use Rattle.decisions.specs.Ready.{ReadyStart}
 use Rattle.decisions.specs.TestLaws.{First, NoneApplies, numbers, none-applies}
 
-module _ (b q n d : ℕ) where
-  settings-tests : {s : Settings} → settingsAnswer b q n d ≡ answer.Fit s → (inLimits (settingsOf b q n d) ≡ true) × (s ≡ settingsOf b q n d)
+-- what the constructor answers to the settings asked for
+abbrev pub answered : Settings → SettingsAnswer
+answered s = settingsAnswer (s .block) (s .useful) (s .blocks) (s .tags)
+
+module _ (asked : Settings) where
+  settings-tests : {s : Settings} → answered asked ≡ answer.Fit s → (inLimits asked ≡ true) × (s ≡ asked)
   unfolding settingsAnswer
-  settings-tests {s} = by-test (inLimits (settingsOf b q n d))
-      (λ t. cond t (answer.Fit (settingsOf b q n d)) (answer.Refused 1) ≡ answer.Fit s → (t ≡ true) × (s ≡ settingsOf b q n d))
+  settings-tests {s} = by-test (inLimits asked)
+      (λ t. cond t (answer.Fit asked) (answer.Refused SETTINGS) ≡ answer.Fit s → (t ≡ true) × (s ≡ asked))
       (λ a e. (refl, cc))
       (λ a e. let z : _≡_ {A = ℕ} 0 1 = cc in absurd (omega arith))
 
-  pub settings-within : {s : Settings} → settingsAnswer b q n d ≡ answer.Fit s → Within s
-  settings-within e = let t = settings-tests e in rw (t .1) (limits-within (settingsOf b q n d) (t .0))
+  pub settings-within : {s : Settings} → answered asked ≡ answer.Fit s → Within s
+  settings-within e = let t = settings-tests e in rw (t .1) (limits-within asked (t .0))
 
-  -- ---- the settings first
-  pub settings-refused : (ws : List ℕ) {k : ℕ} → settingsAnswer b q n d ≡ answer.Refused k
-      → Refused k ≡ startVerdict (startTests (settingsOf b q n d) ws) (settingsOf b q n d)
-  unfolding settingsAnswer startVerdict
-  settings-refused ws {k} = by-test (inLimits (settingsOf b q n d))
-      (λ t. cond t (answer.Fit (settingsOf b q n d)) (answer.Refused 1) ≡ answer.Refused k
-      → Refused k ≡ startVerdict (record { number = 1; applies = not t } ∷ startOwn (settingsOf b q n d) ws) (settingsOf b q n d))
-      (λ a e. let z : _≡_ {A = ℕ} 0 1 = cc in absurd (omega arith))
-      (λ a e. let z : 1 ≡ k = cc in ap Refused (sym z))
+  module _ (ws : List ℕ) where
+    -- ---- the settings first
+    pub settings-refused : {k : ℕ} → answered asked ≡ answer.Refused k → Refused k ≡ startVerdict (startTests asked ws) asked
+    unfolding settingsAnswer startVerdict
+    settings-refused {k} = by-test (inLimits asked)
+        (λ t. cond t (answer.Fit asked) (answer.Refused SETTINGS) ≡ answer.Refused k
+        → Refused k ≡ startVerdict (record { number = SETTINGS; applies = not t } ∷ startOwn asked ws) asked)
+        (λ a e. let z : _≡_ {A = ℕ} 0 1 = cc in absurd (omega arith))
+        (λ a e. let z : SETTINGS ≡ k = cc in ap Refused (sym z))
 
-  -- ---- then the store
-  start-first : (ws : List ℕ) {s : Settings} {r : ℕ} → settingsAnswer b q n d ≡ answer.Fit s → First (startOwn s ws) r
-      → (refusal (startTests (settingsOf b q n d) ws) ≡ r) × (s ≡ settingsOf b q n d)
-  start-first ws e f = let t = settings-tests e in (rw (t .0, ← (t .1)) (f .is), t .1)
+    -- ---- then the store
+    module _ {s : Settings} {r : ℕ} (fit : answered asked ≡ answer.Fit s) (own : First (startOwn s ws) r) where
+      start-first : (refusal (startTests asked ws) ≡ r) × (s ≡ asked)
+      start-first = let t = settings-tests fit in (rw (t .0, ← (t .1)) (own .is), t .1)
 
-  pub store-refused : (ws : List ℕ) {s : Settings} {r : ℕ} → settingsAnswer b q n d ≡ answer.Fit s → First (startOwn s ws) r → r ≢ 0
-      → Refused r ≡ startVerdict (startTests (settingsOf b q n d) ws) (settingsOf b q n d)
-  unfolding startVerdict
-  store-refused ws {r = r} e f z = let t = start-first ws e f in rw (t .0, ne-eqb r 0 z)
+      pub store-refused : r ≢ 0 → Refused r ≡ startVerdict (startTests asked ws) asked
+      unfolding startVerdict
+      store-refused z = rw (start-first .0, ne-eqb r 0 z)
 
-  pub store-passed : (ws : List ℕ) {s : Settings} → settingsAnswer b q n d ≡ answer.Fit s → First (startOwn s ws) 0
-      → Go s ≡ startVerdict (startTests (settingsOf b q n d) ws) (settingsOf b q n d)
-  unfolding startVerdict
-  store-passed ws e f = let t = start-first ws e f in rw (t .0) (ap Go (t .1))
+      pub store-passed : r ≡ 0 → Go s ≡ startVerdict (startTests asked ws) asked
+      unfolding startVerdict
+      store-passed z = rw (start-first .0, z) (ap Go (start-first .1))
 
 -- ---- a verdict and its refusal number: to go on is to have none, with the settings in question; to be refused is to have one, and that number
 pub start-gone : (l : List Test) (s s′ : Settings) → startVerdict l s ≡ Go s′ → (refusal l ≡ 0) × (s′ ≡ s)

@@ -6,6 +6,7 @@ use lib.Dec.{eqb, ltb}
 use lib.ListN.{length}
 use Rattle.layout.specs.declared.head.Head.{Head}
 use Rattle.layout.specs.Sizes.{layoutLen}
+use Rattle.layout.specs.RefusalNumbers.{SHORT-STORE, TIME-OPEN, EARLY}
 use Rattle.calls.specs.Refusals.{Test, refusal, isOpen}
 use Rattle.decisions.specs.declared.Verdict.{Verdict}
 use Rattle.decisions.specs.declared.Verdict.the-variants.{Go, Refused}
@@ -21,6 +22,6 @@ verdict l h = ruled (refusal l) h
 -- what `timeTests` tests once the head h is read from the words
 abbrev pub timeOwn : Head → List ℕ → ℕ → List Test → List Test
 timeOwn h ws s l =
-    record { number = 4; applies = ltb (length ws) (layoutLen (h .settings)) }
-    ∷ record { number = 5; applies = isOpen s }
-    ∷ record { number = 6; applies = ltb s (h .cursor .clock) } ∷ l
+    record { number = SHORT-STORE; applies = ltb (length ws) (layoutLen (h .settings)) }
+    ∷ record { number = TIME-OPEN; applies = isOpen s }
+    ∷ record { number = EARLY; applies = ltb s (h .cursor .clock) } ∷ l

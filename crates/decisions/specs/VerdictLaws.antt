@@ -1,5 +1,5 @@
 -- Verdicts join as the code does: the head first, then the second, then the change's own tests.
-use mathlib.Core.Path.{_≡_, refl, sym, ap, _∙_}
+use mathlib.Core.Path.{_≡_, refl, sym, ap, _∙_, subst}
 use mathlib.Core.Logic.{_≢_}
 use mathlib.Core.Bool.{false, cond}
 use mathlib.Core.List.{List, [], _∷_}
@@ -7,17 +7,21 @@ use Prim.Native.Nat.{ℕ, _≤_}
 use native.Mathlib.Omega.{arith}
 use lib.Dec.{ltb}
 use lib.ListN.{length}
-use borrow.Author.Tests.{ne-eqb, ltb-false}
+use borrow.Author.Tests.{ne-eqb, ltb-false, le-ltb}
 use Rattle.base.specs.Branch.{by-test, by-eqb}
 use Rattle.base.specs.Sums.{cons}
 use Rattle.layout.specs.declared.head.Head.{Head}
+use Rattle.layout.specs.declared.head.HeadAnswer.the-variants.{Read}
+use Rattle.layout.specs.declared.head.HeadAnswer.the-variants as answer
 use Rattle.layout.specs.Sizes.{headLen}
-use Rattle.layout.specs.Head.{headOf, badHead, headRefusal}
+use Rattle.layout.specs.RefusalNumbers.{SHORT-HEAD, HEAD}
+use Rattle.layout.specs.Head.{headOf, badHead, headAnswer, headNumber, headRefusal}
+use Rattle.layout.specs.HeadLaws.{head-passes}
 use Rattle.calls.specs.Refusals.{Test, refusal, timeTests}
 use Rattle.decisions.specs.declared.Verdict.{Verdict}
 use Rattle.decisions.specs.declared.Verdict.the-variants.{Go, Refused}
 use Rattle.decisions.specs.Verdict.{ruled, verdict, timeOwn}
-use Rattle.decisions.specs.TestLaws.{First, NoneApplies, numbers, none-applies, none-first, first-stays}
+use Rattle.decisions.specs.TestLaws.{First, miss, NoneApplies, numbers, none-applies, none-first, first-stays}
 
 -- ---- a verdict and its refusal number
 pub verdict-is : {l : List Test} {r : ℕ} (h : Head) → First l r → ruled r h ≡ verdict l h
@@ -52,34 +56,29 @@ gone-by l e q = rw (e, q)
 module _ (ws : List ℕ) (s : ℕ) where
   -- where its refusal is n, not 0, so is that of every table;
   pub head-refused : {n : ℕ} (l : List Test) → n ≡ headRefusal ws → n ≢ 0 → First (timeTests ws s l) n
+  unfolding headAnswer
   head-refused {n} l = by-test (ltb (length ws) headLen)
-      (λ t. n ≡ cond t 2 (cond (badHead ws) 3 0) → n ≢ 0
-      → First (record { number = 2; applies = t } ∷ record { number = 3; applies = badHead ws } ∷ timeOwn (headOf ws) ws s l) n)
+      (λ t. n ≡ headNumber (cond t (answer.Refused SHORT-HEAD) (cond (badHead ws) (answer.Refused HEAD) (Read (headOf ws)))) → n ≢ 0
+      → First (record { number = SHORT-HEAD; applies = t } ∷ record { number = HEAD; applies = badHead ws } ∷ timeOwn (headOf ws) ws s l) n)
       (λ a e d. record { is = sym e })
       (λ a. by-test (badHead ws)
-      (λ t. n ≡ cond t 3 0 → n ≢ 0
-      → First (record { number = 2; applies = false } ∷ record { number = 3; applies = t } ∷ timeOwn (headOf ws) ws s l) n)
+      (λ t. n ≡ headNumber (cond t (answer.Refused HEAD) (Read (headOf ws))) → n ≢ 0
+      → First (record { number = SHORT-HEAD; applies = false } ∷ record { number = HEAD; applies = t } ∷ timeOwn (headOf ws) ws s l) n)
       (λ b e d. record { is = sym e })
       (λ b e d. absurd (d e)))
 
   -- where it is 0, the other tests are looked at.
   pub head-passed : {n r : ℕ} {h : Head} (l : List Test) → n ≡ headRefusal ws → n ≡ 0 → h ≡ headOf ws → First (timeOwn h ws s l) r
       → First (timeTests ws s l) r
-  head-passed {n} {r} {h} l = by-test (ltb (length ws) headLen)
-      (λ t. n ≡ cond t 2 (cond (badHead ws) 3 0) → n ≡ 0 → h ≡ headOf ws → First (timeOwn h ws s l) r
-      → First (record { number = 2; applies = t } ∷ record { number = 3; applies = badHead ws } ∷ timeOwn (headOf ws) ws s l) r)
-      (λ a e z. absurd (omega arith))
-      (λ a. by-test (badHead ws)
-      (λ t. n ≡ cond t 3 0 → n ≡ 0 → h ≡ headOf ws → First (timeOwn h ws s l) r
-      → First (record { number = 2; applies = false } ∷ record { number = 3; applies = t } ∷ timeOwn (headOf ws) ws s l) r)
-      (λ b e z. absurd (omega arith))
-      (λ b e z q f. record { is = ap (λ (x : Head). refusal (timeOwn x ws s l)) (sym q) ∙ f .is }))
+  head-passed {r = r} l e z q f =
+      let p = head-passes ws (sym e ∙ z) in
+      miss (le-ltb (length ws) headLen (p .0)) (miss (p .1) (subst (λ (x : Head). First (timeOwn x ws s l) r) q f))
 
   -- A store that no test turns away has a head.
   pub has-head : {r : ℕ} → First (timeTests ws s []) r → r ≡ 0 → headLen ≤ length ws
   has-head e z = long (none-applies (numbers (timeTests ws s []) refl) (e .is ∙ z))
     where
-      long : {l : List Test} → NoneApplies (record { number = 2; applies = ltb (length ws) headLen } ∷ l) → headLen ≤ length ws
+      long : {l : List Test} → NoneApplies (record { number = SHORT-HEAD; applies = ltb (length ws) headLen } ∷ l) → headLen ≤ length ws
       long (cons a n) = ltb-false (length ws) headLen a
 
   -- ---- then the second, then what is a change's own

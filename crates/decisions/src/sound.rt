@@ -10,10 +10,10 @@ ghost use mathlib.Core.Path.{_≡_};
 ghost use mathlib.Core.Bool.{_&&_};
 ghost use Prim.Native.Nat.{_≤_};
 ghost use Rattle.layout.specs.Address.{Numbered};
-ghost use Rattle.layout.specs.Standing.{slots};
-ghost use Rattle.calls.specs.Refusals.{anyOf, bitsOf, closes, afterClear, badPlace, badBlock};
+ghost use Rattle.layout.specs.Standing.{slots, blockBits};
+ghost use Rattle.layout.specs.Spot.{Lies};
+ghost use Rattle.calls.specs.Refusals.{anyOf, closes, afterClear, badPlace, badBlock};
 ghost use Rattle.decisions.specs.Ready.{wordsOf, Ready, PlaceOf};
-ghost use Rattle.decisions.specs.EffectLaws.{InPlace};
 ghost use Rattle.decisions.specs.SoundLaws.{badLinks, badSlot, badAcceptor};
 
 // The place p of a tag is above the records placed, or its record has another tag or no standing bit.
@@ -68,7 +68,7 @@ fn slot_is_bad(store: &[u32], h: Head, n: u32, k: u32) -> bool
 fn slots_are_bad(store: &[u32], h: Head, n: u32) -> bool
     requires { ⌜ Ready (now store) h ⌝ }
     requires { ⌜ Numbered (h .settings) n ⌝ }
-    ensures { λ r. ⌜ r ≡ anyOf (badSlot h (wordsOf h (now (store .entry))) n) (slots (bitsOf h (wordsOf h (now (store .entry))) n)) ⌝ }
+    ensures { λ r. ⌜ r ≡ anyOf (badSlot h (wordsOf h (now (store .entry))) n) (slots (blockBits (wordsOf h (now (store .entry))) n)) ⌝ }
 {
     let mut left = address::standing(store, h.settings, n);
     while !left.is_empty() {
@@ -107,7 +107,7 @@ fn acceptor_is_bad(store: &[u32], h: Head, b: Standing) -> bool
 // The acceptor as a set finds it. (A set closes no other block.)
 pub(crate) fn unsound_for_set(store: &[u32], h: Head) -> bool
     requires { ⌜ Ready (now store) h ⌝ }
-    ensures { λ r. ⌜ r ≡ badAcceptor h (wordsOf h (now (store .entry))) (bitsOf h (wordsOf h (now (store .entry))) (h .cursor .opened)) ⌝ }
+    ensures { λ r. ⌜ r ≡ badAcceptor h (wordsOf h (now (store .entry))) (blockBits (wordsOf h (now (store .entry))) (h .cursor .opened)) ⌝ }
 {
     if h.cursor.opened == 0 {
         return false;
@@ -120,7 +120,7 @@ pub(crate) fn unsound_for_set(store: &[u32], h: Head) -> bool
 fn after_clear(store: &[u32], h: Head, tag: u32, p: u32) -> Standing
     requires { ⌜ Ready (now store) h ⌝ }
     requires { ⌜ PlaceOf h (now store) tag p ⌝ }
-    requires { ⌜ InPlace h p ⌝ }
+    requires { ⌜ Lies h p ⌝ }
     ensures { λ r. ⌜ r ≡ afterClear h (wordsOf h (now (store .entry))) tag ⌝ }
 {
     let b = address::standing(store, h.settings, h.cursor.opened);
@@ -134,7 +134,7 @@ fn after_clear(store: &[u32], h: Head, tag: u32, p: u32) -> Standing
 pub(crate) fn unsound_after_clear(store: &[u32], h: Head, tag: u32, p: u32) -> bool
     requires { ⌜ Ready (now store) h ⌝ }
     requires { ⌜ PlaceOf h (now store) tag p ⌝ }
-    requires { ⌜ InPlace h p ⌝ }
+    requires { ⌜ Lies h p ⌝ }
     ensures { λ r. ⌜ r ≡ badAcceptor h (wordsOf h (now (store .entry))) (afterClear h (wordsOf h (now (store .entry))) tag) ⌝ }
 {
     let b = after_clear(store, h, tag, p);

@@ -1,26 +1,90 @@
-// The five change calls on document 01's printed changes, its edges P8 to P12, and one example of each refusal that a change knows. Prints each answer
-// with the next head, and the head, the directory and the opened blocks as words.
+// The five change calls on document 01's printed changes, its edges P8 to P12, and one example of each refusal that a change knows. Prints
+// each answer with the next head, and the head, the directory and the opened blocks as words.
 use changes::Change;
 use layout::settings::Settings;
 
 // The store of the printed settings: b = 4, q = 2, 8 blocks, 16 tags.
 const WORDS: usize = 4592;
 
-// where the directory and the blocks of these settings start, and how long they are
-const DIRECTORY: u32 = 4384;
+type Store = [u32; WORDS];
 
-// block 0 would start here, if it had words
-const BEFORE_BLOCKS: u32 = 4376;
+// A step: its kind, how many words of the store are lent, and three numbers more.
+struct Trial(u32, usize, u32, u32, u32);
 
-const BLOCK: u32 = 24;
+// b and B; a second, a tag and a reading, of which a call takes what it asks for; the place of a word and what is written there.
+const START: u32 = 1;
+
+const SET: u32 = 2;
+
+const CLEAR: u32 = 3;
+
+const UPDATE: u32 = 4;
+
+const ADVANCE: u32 = 5;
+
+const WRITE: u32 = 6;
+
+// What is printed: the titles, in the place of each `#` the answer of the next step, and of each `@` the store.
+const SCRIPT: [u8; 140] = *b"P8
+##P12
+##short stores
+###@printed changes
+########@P9
+#P10
+#P11
+##refusals
+#####new reading, clock
+##@damaged
+#####@out of blocks
+#######@";
+
+// P8 and P12, where the last store is one word too short for a register; then stores too short for the layout of their head, or for a head;
+// the printed changes; P9, P10 and P11; the refusals that need some state; a new reading and a clock move; a directory word that names no
+// placed record, which is unsound, and a head with another mark; with one block the fifth set would open another.
+const STEPS: [Trial; 38] = [
+    Trial(START, 4592, 4, 8, 0),
+    Trial(START, 4592, 3, 8, 0),
+    Trial(START, 4592, 4, 8, 0),
+    Trial(START, 4591, 4, 8, 0),
+    Trial(ADVANCE, 4591, 1, 0, 0),
+    Trial(START, 15, 4, 8, 0),
+    Trial(SET, 15, 1, 1, 1),
+    Trial(SET, 4592, 1, 1, 25),
+    Trial(SET, 4592, 2, 2, 4294967271),
+    Trial(SET, 4592, 3, 3, 5),
+    Trial(SET, 4592, 4, 4, 140),
+    Trial(SET, 4592, 5, 5, 0),
+    Trial(CLEAR, 4592, 6, 2, 0),
+    Trial(CLEAR, 4592, 7, 3, 0),
+    Trial(CLEAR, 4592, 8, 1, 0),
+    Trial(SET, 4592, 8, 6, 1),
+    Trial(SET, 4592, 7, 7, 1),
+    Trial(SET, 4592, 8, 15, 1),
+    Trial(SET, 4592, 8, 16, 1),
+    Trial(ADVANCE, 4592, layout::OPEN, 0, 0),
+    Trial(ADVANCE, 4592, 7, 0, 0),
+    Trial(SET, 4592, 9, 4, 1),
+    Trial(CLEAR, 4592, 9, 2, 0),
+    Trial(UPDATE, 4592, 9, 2, 1),
+    Trial(UPDATE, 4592, 9, 4, 4294967295),
+    Trial(ADVANCE, 4592, 12, 0, 0),
+    Trial(WRITE, 4592, 4389, 99, 0),
+    Trial(CLEAR, 4592, 13, 5, 0),
+    Trial(UPDATE, 4592, 13, 5, 1),
+    Trial(WRITE, 4592, 0, 7000, 0),
+    Trial(ADVANCE, 4592, 13, 0, 0),
+    Trial(START, 4592, 4, 1, 0),
+    Trial(SET, 4592, 1, 0, 10),
+    Trial(SET, 4592, 1, 1, 11),
+    Trial(SET, 4592, 1, 2, 12),
+    Trial(SET, 4592, 1, 3, 13),
+    Trial(SET, 4592, 1, 4, 14),
+    Trial(UPDATE, 4592, 1, 3, 7),
+];
 
 fn number(x: u32) {
     io::write_all(1, b" ");
     io::print_decimal(1, x as u64);
-}
-
-fn end_line() {
-    io::write_all(1, b"\n");
 }
 
 // An answer with the next head's own words, or the refusal.
@@ -40,184 +104,87 @@ fn tell(c: Change) {
             number(n);
         }
     }
-    end_line();
+    io::write_all(1, b"\n");
 }
 
-fn word(store: &[u32; WORDS], i: u32) {
-    let at = i as usize;
-    if at < WORDS {
-        number(store[at]);
+// Titled words of the store, from one on to before another.
+fn words(store: &Store, title: &[u8], from: usize, to: usize) {
+    io::write_all(1, title);
+    for i in from..to {
+        if i < WORDS {
+            number(store[i]);
+        }
     }
-}
-
-// Eight words from `start` on.
-fn eight(store: &[u32; WORDS], start: u32) {
-    if 5000 < start {
-        return;
-    }
-    word(store, start);
-    word(store, start + 1);
-    word(store, start + 2);
-    word(store, start + 3);
-    word(store, start + 4);
-    word(store, start + 5);
-    word(store, start + 6);
-    word(store, start + 7);
-}
-
-// Block n, if it is opened.
-fn block(store: &[u32; WORDS], n: u32) {
-    if store[5] < n {
-        return;
-    }
-    if 8 < n {
-        return;
-    }
-    io::write_all(1, b"block");
-    number(n);
-    let start = BEFORE_BLOCKS + n * BLOCK;
-    eight(store, start);
-    eight(store, start + 8);
-    eight(store, start + 16);
-    end_line();
+    io::write_all(1, b"\n");
 }
 
 // The head, the directory and the opened blocks.
-fn show(store: &[u32; WORDS]) {
-    io::write_all(1, b"head");
-    eight(store, 0);
-    eight(store, 8);
-    end_line();
-    io::write_all(1, b"directory");
-    eight(store, DIRECTORY);
-    eight(store, DIRECTORY + 8);
-    end_line();
-    block(store, 1);
-    block(store, 2);
-    block(store, 3);
+fn show(store: &Store) {
+    let blocks = store[5];
+    words(store, b"head", 0, 16);
+    words(store, b"directory", 4384, 4400);
+    if 1 <= blocks {
+        words(store, b"block 1", 4400, 4424);
+    }
+    if 2 <= blocks {
+        words(store, b"block 2", 4424, 4448);
+    }
+    if 3 <= blocks {
+        words(store, b"block 3", 4448, 4472);
+    }
 }
 
-fn set(store: &mut [u32; WORDS], second: u32, tag: u32, reading: u32) {
-    tell(changes::set(store, second, tag, reading));
+fn call(lent: &mut [u32], s: Trial) -> Change {
+    let kind = s.0;
+    match kind {
+        START => changes::start(lent, Settings::asked(s.2, 2, s.3, 16)),
+        SET => changes::set(lent, s.2, s.3, s.4),
+        CLEAR => changes::clear(lent, s.2, s.3),
+        UPDATE => changes::update(lent, s.2, s.3, s.4),
+        _ => changes::advance(lent, s.2),
+    }
 }
 
-fn clear(store: &mut [u32; WORDS], second: u32, tag: u32) {
-    tell(changes::clear(store, second, tag));
+fn take(store: &mut [u32], s: Trial) {
+    let at = s.2 as usize;
+    let lent = s.1;
+    let all = store.len();
+    if s.0 == WRITE {
+        if at < all {
+            store[at] = s.3;
+        }
+    } else if lent <= all {
+        tell(call(&mut store[0..lent], s));
+    }
 }
 
-fn update(store: &mut [u32; WORDS], second: u32, tag: u32, reading: u32) {
-    tell(changes::update(store, second, tag, reading));
+// Trial i; after the last one nothing.
+fn step_number(i: usize) -> Trial {
+    if i < 38 {
+        return STEPS[i];
+    }
+    Trial(WRITE, 0, layout::OPEN, 0, 0)
 }
 
-fn advance(store: &mut [u32; WORDS], second: u32) {
-    tell(changes::advance(store, second));
-}
-
-fn start(store: &mut [u32; WORDS], block: u32, blocks: u32) {
-    tell(changes::start(store, Settings::asked(block, 2, blocks, 16)));
-}
-
-fn printed_changes(store: &mut [u32; WORDS]) {
-    set(store, 1, 1, 25);
-    set(store, 2, 2, 4294967271);
-    set(store, 3, 3, 5);
-    set(store, 4, 4, 140);
-    set(store, 5, 5, 0);
-    clear(store, 6, 2);
-    clear(store, 7, 3);
-    clear(store, 8, 1);
-    show(store);
-}
-
-// P9, P10 and P11 follow the printed changes.
-fn edges(store: &mut [u32; WORDS]) {
-    io::write_all(1, b"P9\n");
-    set(store, 8, 6, 1);
-    io::write_all(1, b"P10\n");
-    set(store, 7, 7, 1);
-    io::write_all(1, b"P11\n");
-    set(store, 8, 15, 1);
-    set(store, 8, 16, 1);
-}
-
-// The refusals that need some state.
-fn refusals(store: &mut [u32; WORDS]) {
-    io::write_all(1, b"refusals\n");
-    advance(store, layout::OPEN);
-    advance(store, 7);
-    set(store, 9, 4, 1);
-    clear(store, 9, 2);
-    update(store, 9, 2, 1);
-    io::write_all(1, b"new reading, clock\n");
-    update(store, 9, 4, 4294967295);
-    advance(store, 12);
-    show(store);
-}
-
-// A directory word that names no placed record is unsound; so is a head with another mark.
-fn damaged(store: &mut [u32; WORDS]) {
-    io::write_all(1, b"damaged\n");
-    store[4389] = 99;
-    clear(store, 13, 5);
-    update(store, 13, 5, 1);
-    store[0] = 7000;
-    advance(store, 13);
-    show(store);
-}
-
-// With one block the fifth set would open another.
-fn out_of_blocks(store: &mut [u32; WORDS]) {
-    io::write_all(1, b"out of blocks\n");
-    start(store, 4, 1);
-    set(store, 1, 0, 10);
-    set(store, 1, 1, 11);
-    set(store, 1, 2, 12);
-    set(store, 1, 3, 13);
-    set(store, 1, 4, 14);
-    update(store, 1, 3, 7);
-    show(store);
-}
-
-// P8 and P12.
-fn starts(store: &mut [u32; WORDS]) {
-    io::write_all(1, b"P8\n");
-    start(store, 4, 8);
-    start(store, 3, 8);
-    io::write_all(1, b"P12\n");
-    start(store, 4, 8);
-    let mut short = [9u32; 4591];
-    tell(changes::start(&mut short, Settings::asked(4, 2, 8, 16)));
-}
-
-// The head of a fresh register on a store that is one word too short for it.
-fn short_of_layout(short: &mut [u32; 4591]) {
-    short[0] = 7001;
-    short[1] = 4;
-    short[2] = 2;
-    short[3] = 8;
-    short[4] = 16;
-    tell(changes::advance(short, 1));
-}
-
-// Stores too short for the layout of their head, or for a head.
-fn short_stores() {
-    io::write_all(1, b"short stores\n");
-    let mut short = [0u32; 4591];
-    short_of_layout(&mut short);
-    let mut tiny = [9u32; 15];
-    tell(changes::start(&mut tiny, Settings::asked(4, 2, 8, 16)));
-    tell(changes::set(&mut tiny, 1, 1, 1));
+// A byte of the script, with the number of the step that is next; that of the step after it.
+fn play(store: &mut Store, byte: u8, next: usize) -> usize {
+    if byte == b'#' {
+        if next < 38 {
+            take(store, step_number(next));
+            return next + 1;
+        }
+    } else if byte == b'@' {
+        show(store);
+    } else {
+        io::write_all(1, &[byte]);
+    }
+    next
 }
 
 fn main() {
     let mut store = [9u32; WORDS];
-    starts(&mut store);
-    short_stores();
-    show(&store);
-    io::write_all(1, b"printed changes\n");
-    printed_changes(&mut store);
-    edges(&mut store);
-    refusals(&mut store);
-    damaged(&mut store);
-    out_of_blocks(&mut store);
+    let mut next = 0;
+    for i in 0..140 {
+        next = play(&mut store, SCRIPT[i], next);
+    }
 }

@@ -14,7 +14,7 @@ use Rattle.calls.specs.Calls.{LookBack, Call, Start, Set, Clear, Update, Advanc
 use Rattle.calls.specs.Refusals.{Test, refusal, storeTests}
 use Rattle.calls.specs.LookBack.{lookBack}
 use Rattle.calls.specs.Step.{testsOf, start, set, clear, update, advance}
-use Rattle.calls.specs.Claims.{Change}
+use Rattle.calls.specs.Claims.{NotStart}
 use Rattle.edges.specs.EdgesStores.{Refuses, AllRefuse, headOnly, three}
 use Rattle.edges.specs.EdgesHead.{StartEdges, HeadEdges}
 
@@ -30,7 +30,7 @@ kept (t ∷ l) m n e d = go (t .applies) (λ f. kept l m n f d) e
 
 module _ (ws : List ℕ) (n : ℕ) (some : eqb n 0 ≡ false) where
   -- the tests that every call but a start begins with
-  begins : (c : Call) → Change c → refusal (storeTests ws []) ≡ n → refusal (testsOf ws c) ≡ n
+  begins : (c : Call) → NotStart c → refusal (storeTests ws []) ≡ n → refusal (testsOf ws c) ≡ n
   begins (Start s) h e = absurd h
   begins (Set s tag reading) h e = kept (storeTests ws []) (drop 3 (testsOf ws (Set s tag reading))) n e some
   begins (Clear s tag) h e = kept (storeTests ws []) (drop 3 (testsOf ws (Clear s tag))) n e some
@@ -40,7 +40,7 @@ module _ (ws : List ℕ) (n : ℕ) (some : eqb n 0 ≡ false) where
       kept (storeTests ws []) (drop 3 (testsOf ws (Ask (LookBack t rows list)))) n e some
 
   -- a call whose first refusal is n, but not 12, answers it
-  answers : (c : Call) → Change c → eqb n 12 ≡ false → refusal (testsOf ws c) ≡ n → Refuses n ws c
+  answers : (c : Call) → NotStart c → eqb n 12 ≡ false → refusal (testsOf ws c) ≡ n → Refuses n ws c
   unfolding set clear update advance lookBack
   answers (Start s) h d e = absurd h
   answers (Set s tag reading) h d e = rw (e, some)

@@ -3,7 +3,7 @@
 use mathlib.Core.Path.{_≡_, refl}
 use lib.ListN.{replicate}
 use Rattle.base.specs.Bits.{bitAt, withBit, withoutBit}
-use Rattle.base.specs.Places.{bitsFrom}
+use Rattle.base.specs.Ones.{bitsFrom}
 use Rattle.base.specs.Slots.{slotsOf}
 use Rattle.layout.specs.Sizes.{blockLen, layoutLen}
 use Rattle.layout.specs.Program.{each}

@@ -13,11 +13,11 @@ use Rattle.layout.specs.declared.address.Address.the-variants.{Head}
 use Rattle.layout.specs.Sizes.{OPEN, headLen, levelLen}
 use Rattle.layout.specs.Fields.{headBlocks, headFill}
 use Rattle.layout.specs.Settings.{settingsOf}
-use Rattle.layout.specs.Head.{headOf, headWords}
+use Rattle.layout.specs.Head.{headOf, headWords, freshHead}
 use Rattle.layout.specs.Words.{writeWord}
 use Rattle.calls.specs.Calls.{Call, Set, Clear, Refused, accepted}
-use Rattle.calls.specs.Step.{step, freshHead}
-use Rattle.calls.specs.Claims.{Change}
+use Rattle.calls.specs.Step.{step}
+use Rattle.calls.specs.Claims.{NotStart}
 
 -- ---- what a call gives
 -- it is turned away with n, so n is the first refusal that applies
@@ -29,7 +29,7 @@ Passes ws c = accepted (step ws c .answer) ≡ true
 
 -- every call but a start is turned away with n, whatever its arguments
 pub record AllRefuse (n : ℕ) (ws : List ℕ) : Type 0 where
-  pub given : (c : Call) → Change c → Refuses n ws c
+  pub given : (c : Call) → NotStart c → Refuses n ws c
 
 -- ---- a store with words changed: store ▹ address ≔ value ▹ address ≔ value ..
 infixl 15 _▹_

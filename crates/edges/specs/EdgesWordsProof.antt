@@ -1,7 +1,7 @@
 -- The edges of what is written hold: computed on the words.
 use mathlib.Core.Path.{refl}
 use Rattle.base.specs.Bits.{bitAt, withBit, withoutBit}
-use Rattle.base.specs.Places.{bitsFrom}
+use Rattle.base.specs.Ones.{bitsFrom}
 use Rattle.base.specs.Slots.{slotsOf}
 use Rattle.layout.specs.Sizes.{blockLen, layoutLen}
 use Rattle.layout.specs.Program.{each}

@@ -1,18 +1,9 @@
-// After an accepted start or change: the store against the book and the log. A function answers 0 where they agree, else the number of what
-// does not, or (head, seconds) the bits that differ.
+// After an accepted start or change: the store against the book and the log. A finding is 0 where they agree, else the number of what does
+// not.
 use crate::book;
-use crate::log;
-use crate::notes::Notes;
-use crate::notes::Store;
-use crate::notes::get;
-use crate::notes::word;
+use crate::memory::*;
 use crate::settings;
-use crate::settings::Settings;
-use crate::words::OPEN;
-use crate::words::bit;
-use crate::words::less;
-use crate::words::product;
-use crate::words::sum;
+use crate::words::*;
 
 const HEAD: u32 = 4;
 
@@ -26,103 +17,55 @@ const SLOT: u32 = 8;
 
 const DIRECTORY: u32 = 9;
 
-// Mark and settings, N, the clock and the six zeros: all that differs.
-fn head(store: &Store, notes: &Notes, s: Settings) -> u32 {
-    (word(store, 0) ^ 7001)
-        | head_settings(store, s)
-        | (word(store, 5) ^ get(notes, book::BLOCKS))
-        | (word(store, 6) ^ get(notes, log::CLOCK))
-        | zeros(store)
+// "records placed, 0 for N = 0 and else (N − 1) × b + fill", are the book's; and records placed × (b − q + 1) ≤ b × accepted sets and new
+// readings.
+fn placed(memory: &Memory) -> u32 {
+    let n = get(memory, STORE + 5);
+    let fill = if n == 0 { 0 } else { get(memory, STORE + 7) };
+    let count = sum(book::before(memory, n), fill);
+    let block = get(memory, book::BLOCK);
+    let share = sum(less(block, get(memory, book::USEFUL)), 1);
+    let is_placed = count == get(memory, book::PLACED);
+    let is_bound = product(count, share) <= product(block, get(memory, book::SETS));
+    first(unless(is_placed, PLACED), unless(is_bound, BOUND))
 }
 
-fn head_settings(store: &Store, s: Settings) -> u32 {
-    (word(store, 1) ^ s.block)
-        | (word(store, 2) ^ s.useful)
-        | (word(store, 3) ^ s.blocks)
-        | (word(store, 4) ^ s.tags)
+// The opened and closed word of the block that starts here are the seconds of the book's block n.
+fn seconds(memory: &Memory, start: u32, n: u32) -> bool {
+    (get(memory, start) == at(memory, book::OPENED, n))
+        & (at(memory, start, 1) == at(memory, book::CLOSED, n))
 }
 
-fn zeros(store: &Store) -> u32 {
-    word(store, 10)
-        | word(store, 11)
-        | word(store, 12)
-        | word(store, 13)
-        | word(store, 14)
-        | word(store, 15)
+// The standing bit of slot k of the block that starts here, in one of two words.
+fn standing_bit(memory: &Memory, start: u32, k: u32) -> bool {
+    bit(at(memory, start, sum(6, k / 32)), k % 32) == 1
 }
 
-// "records placed, 0 for N = 0 and else (N − 1) × b + fill"
-fn store_placed(store: &Store, s: Settings) -> u32 {
-    let n = word(store, 5);
-    if n == 0 {
-        return 0;
-    }
-    sum(product(less(n, 1), s.block), word(store, 7))
+// The slot that starts here has the tag of the book's record at a place, if there is one, and no end if that stands.
+fn record(memory: &Memory, slot: u32, place: u32, stands: bool) -> bool {
+    let tagged = get(memory, slot) == at(memory, book::TAG, place);
+    let open = at(memory, slot, 3) == OPEN;
+    (tagged | (get(memory, book::PLACED) < place)) & (open | !stands)
 }
 
-// Records placed are the book's, and records placed × (b − q + 1) ≤ b × accepted sets and new readings.
-fn placed(store: &Store, notes: &Notes, s: Settings) -> u32 {
-    let count = store_placed(store, s);
-    if count != get(notes, book::PLACED) {
-        return PLACED;
-    }
-    let share = sum(less(s.block, s.useful), 1);
-    if product(s.block, get(notes, log::SETS)) < product(count, share) {
-        return BOUND;
-    }
-    0
-}
-
-// A block's opened and closed word against the book's seconds: all that differs.
-fn seconds(store: &Store, notes: &Notes, s: Settings, n: u32) -> u32 {
-    (word(store, settings::block_word(s, n, 0)) ^ book::word(notes, n, book::OPENED))
-        | (word(store, settings::block_word(s, n, 1)) ^ book::word(notes, n, book::CLOSED))
-}
-
-// The record at a place that stands: it has no end, and the directory has its place.
-fn standing_slot(store: &Store, notes: &Notes, s: Settings, place: u32) -> u32 {
-    let n = book::block_of(notes, place);
-    let k = book::slot_of(notes, place);
-    if word(store, settings::slot_word(s, n, k, 3)) != OPEN {
-        return SLOT;
-    }
-    if word(store, sum(settings::DIRECTORY, book::tag(notes, n, k))) != place {
-        return DIRECTORY;
-    }
-    0
-}
-
-// The slot at a place: its tag and its standing bit are the book's; with the first slot of a block, the block's seconds.
-fn slot(store: &Store, notes: &Notes, s: Settings, place: u32) -> u32 {
-    let n = book::block_of(notes, place);
-    let k = book::slot_of(notes, place);
-    if k == 0 {
-        if seconds(store, notes, s, n) != 0 {
-            return SECONDS;
-        }
-    }
-    let low = word(store, settings::block_word(s, n, 6));
-    let high = word(store, settings::block_word(s, n, 7));
-    let stands = book::stands(notes, n, k);
-    if bit(low, high, k) != stands {
-        return SLOT;
-    }
-    if book::has(notes, n, k) {
-        if word(store, settings::slot_word(s, n, k, 0)) != book::tag(notes, n, k) {
-            return SLOT;
-        }
-    }
-    if stands == 1 {
-        return standing_slot(store, notes, s, place);
-    }
-    0
+// The slot at a place, and with it its block's seconds.
+fn slot(memory: &Memory, place: u32) -> u32 {
+    let s = book::current(memory);
+    let n = book::block_of(memory, place);
+    let k = book::slot_of(memory, place);
+    let start = settings::block_start(s, n);
+    let stands = book::stands(memory, place);
+    let standing = standing_bit(memory, start, k) == stands;
+    let recorded = record(memory, settings::slot_start(s, n, k), place, stands);
+    let timed = seconds(memory, start, n);
+    first(unless(timed, SECONDS), unless(standing & recorded, SLOT))
 }
 
 // Every slot of every block of the book.
-fn slots(store: &Store, notes: &Notes, s: Settings) -> u32 {
-    let last = product(get(notes, book::BLOCKS), s.block);
-    for i in 0..last {
-        let found = slot(store, notes, s, sum(i, 1));
+fn slots(memory: &Memory) -> u32 {
+    let end = sum(book::before(memory, sum(get(memory, book::BLOCKS), 1)), 1);
+    for place in 1..end {
+        let found = slot(memory, place);
         if found != 0 {
             return found;
         }
@@ -130,33 +73,12 @@ fn slots(store: &Store, notes: &Notes, s: Settings) -> u32 {
     0
 }
 
-// A directory word is 0 or the place of a record of the book that stands and has this tag.
-fn directory(store: &Store, notes: &Notes, s: Settings) -> u32 {
-    let last = s.tags;
-    for tag in 0..last {
-        let place = word(store, sum(settings::DIRECTORY, tag));
-        if place != 0 {
-            if !book::has_at(notes, place, tag) {
-                return DIRECTORY;
-            }
-        }
-    }
-    0
-}
-
-// The whole store against book and log.
-pub fn store_agrees(store: &Store, notes: &Notes) -> u32 {
-    let s = log::current(notes);
-    if head(store, notes, s) != 0 {
-        return HEAD;
-    }
-    let mut found = placed(store, notes, s);
-    if found != 0 {
-        return found;
-    }
-    found = slots(store, notes, s);
-    if found != 0 {
-        return found;
-    }
-    directory(store, notes, s)
+// The whole store against book and log. Compared of the head: mark and settings, N and the clock, and the six zeros. The directory has for
+// each tag the place of its standing record, or 0.
+pub fn store_agrees(memory: &Memory) -> u32 {
+    let head = same(memory, STORE, BOOK, 7) & same(memory, STORE + 10, BOOK + 10, 6);
+    let tags = get(memory, book::TAGS);
+    let directory = same(memory, settings::DIRECTORY, book::PLACES, tags);
+    let found = first(slots(memory), unless(directory, DIRECTORY));
+    first(unless(head, HEAD), first(placed(memory), found))
 }

@@ -1,245 +1,216 @@
-// The block book of document 01, written from its text alone: blocks in order, each with an opening second, a closing second or none (OPEN),
-// and its records in order, each a tag, standing or ended.
-// Words: blocks, records; then from the book's word 16 on each block: the four named below, and each record's tag and 1 while it stands.
-use crate::asked::CLEAR;
-use crate::asked::Change;
-use crate::asked::SET;
-use crate::asked::UPDATE;
-use crate::log;
-use crate::notes::BOOK;
-use crate::notes::FORMER;
-use crate::notes::Notes;
-use crate::notes::add;
-use crate::notes::copy;
-use crate::notes::get;
-use crate::notes::put;
-use crate::words::OPEN;
-use crate::words::less;
-use crate::words::product;
-use crate::words::quotient;
-use crate::words::rest;
-use crate::words::sum;
+// The block book of document 01, written from its text alone: blocks in order, from 1, each with an opening second and a closing second or
+// none (OPEN), and records in order. Before a block opens, the one before it has b records: so a record's place, counted from 1 through
+// all blocks, tells its block and its slot. A tag has one standing record at most.
+use crate::asked::*;
+use crate::memory::*;
+use crate::settings;
+use crate::settings::Settings;
+use crate::words::*;
 
-// How many blocks there are, and how many records in all.
-pub const BLOCKS: u32 = BOOK;
+// The first 16 words are what the head of the store must be, but for its words 7 to 9: the mark once a start was accepted, the settings,
+// the number of blocks, the clock, and six zeros at the end.
+pub const STARTED: u32 = BOOK;
 
-pub const PLACED: u32 = BOOK + 1;
+// The mark of a head.
+pub const HEAD_MARK: u32 = 7001;
 
-const FIRST: u32 = BOOK + 16;
+pub const BLOCK: u32 = BOOK + 1;
 
-// A block's own words: its two seconds, its records, and how many of these stand.
-pub const OPENED: u32 = 0;
+pub const USEFUL: u32 = BOOK + 2;
 
-pub const CLOSED: u32 = 1;
+pub const MOST_BLOCKS: u32 = BOOK + 3;
 
-const RECORDS: u32 = 2;
+pub const TAGS: u32 = BOOK + 4;
 
-const STANDING: u32 = 3;
+pub const BLOCKS: u32 = BOOK + 5;
 
-const FIRST_RECORD: u32 = 4;
+pub const CLOCK: u32 = BOOK + 6;
 
-pub fn begin(notes: &mut Notes) {
-    put(notes, BLOCKS, 0);
-    put(notes, PLACED, 0);
+// Records placed; accepted changes, and the sets and new readings among them.
+pub const PLACED: u32 = BOOK + 7;
+
+pub const CHANGES: u32 = BOOK + 8;
+
+pub const SETS: u32 = BOOK + 9;
+
+// By tag, the place of its standing record, or 0: what the directory must be.
+pub const PLACES: u32 = BOOK + 64;
+
+// By block, its two seconds and how many of its records stand.
+pub const OPENED: u32 = BOOK + 128;
+
+pub const CLOSED: u32 = BOOK + 768;
+
+const STANDING: u32 = BOOK + 1408;
+
+// By place, the record's tag.
+pub const TAG: u32 = BOOK + 2048;
+
+const LENGTH: u32 = 4096;
+
+// An empty book with these settings, and with the mark if it is started.
+pub fn begin(memory: &mut Memory, s: Settings, mark: u32) {
+    fill(memory, BOOK, BOOK + LENGTH, 0, 0);
+    put(memory, STARTED, mark);
+    put_four(memory, BLOCK, s.block, s.useful, s.blocks, s.tags);
 }
 
-// Word j of block n, n from 1.
-fn at(notes: &Notes, n: u32, j: u32) -> u32 {
-    let length = sum(FIRST_RECORD, product(2, get(notes, log::BLOCK)));
-    sum(sum(FIRST, product(less(n, 1), length)), j)
+// Settings that stand in four words.
+pub fn settings_at(memory: &Memory, i: u32) -> Settings {
+    settings::of(
+        get(memory, i),
+        at(memory, i, 1),
+        at(memory, i, 2),
+        at(memory, i, 3),
+    )
 }
 
-pub fn word(notes: &Notes, n: u32, j: u32) -> u32 {
-    get(notes, at(notes, n, j))
+pub fn current(memory: &Memory) -> Settings {
+    settings_at(memory, BLOCK)
 }
 
-fn record(notes: &Notes, n: u32, k: u32) -> u32 {
-    at(notes, n, sum(FIRST_RECORD, product(2, k)))
+// How many words a store with these settings has.
+pub fn layout(memory: &Memory) -> u32 {
+    settings::layout(current(memory))
 }
 
-pub fn has(notes: &Notes, n: u32, k: u32) -> bool {
-    k < word(notes, n, RECORDS)
+pub fn block_of(memory: &Memory, place: u32) -> u32 {
+    sum(quotient(less(place, 1), get(memory, BLOCK)), 1)
 }
 
-pub fn tag(notes: &Notes, n: u32, k: u32) -> u32 {
-    get(notes, record(notes, n, k))
+pub fn slot_of(memory: &Memory, place: u32) -> u32 {
+    rest(less(place, 1), get(memory, BLOCK))
 }
 
-// 1 if block n has a record k and it stands, else 0.
-pub fn stands(notes: &Notes, n: u32, k: u32) -> u32 {
-    if has(notes, n, k) {
-        get(notes, sum(record(notes, n, k), 1))
-    } else {
-        0
-    }
+// The record at a place stands.
+pub fn stands(memory: &Memory, place: u32) -> bool {
+    at(memory, PLACES, at(memory, TAG, place)) == place
 }
 
-// A standing record ends.
-fn end(notes: &mut Notes, n: u32, k: u32) {
-    let stood = sum(record(notes, n, k), 1);
-    put(notes, stood, 0);
-    let count = at(notes, n, STANDING);
-    put(notes, count, less(get(notes, count), 1));
+// One more or, with OPEN for `by`, one fewer of the records of a place's block stand.
+fn count(memory: &mut Memory, place: u32, by: u32) {
+    let standing = sum(STANDING, block_of(memory, place));
+    add(memory, standing, by);
 }
 
-// "a block opens at s as the last"
-fn open(notes: &mut Notes, second: u32) {
-    add(notes, BLOCKS, 1);
-    let i = at(notes, get(notes, BLOCKS), 0);
-    put(notes, sum(i, OPENED), second);
-    put(notes, sum(i, CLOSED), OPEN);
-    put(notes, sum(i, RECORDS), 0);
-    put(notes, sum(i, STANDING), 0);
+// A standing record ends; its tag.
+fn end(memory: &mut Memory, place: u32) -> u32 {
+    let tag = at(memory, TAG, place);
+    put_at(memory, PLACES, tag, 0);
+    count(memory, place, OPEN);
+    tag
 }
 
 // "then the tag goes, standing, to the end of the last block"
-fn append(notes: &mut Notes, tag: u32) {
-    let n = get(notes, BLOCKS);
-    let i = record(notes, n, word(notes, n, RECORDS));
-    put(notes, i, tag);
-    put(notes, sum(i, 1), 1);
-    let block = at(notes, n, 0);
-    add(notes, sum(block, RECORDS), 1);
-    add(notes, sum(block, STANDING), 1);
-    add(notes, PLACED, 1);
+fn append(memory: &mut Memory, tag: u32) {
+    let place = sum(get(memory, PLACED), 1);
+    put(memory, PLACED, place);
+    put_at(memory, TAG, place, tag);
+    put_at(memory, PLACES, tag, place);
+    count(memory, place, 1);
 }
 
 // "if fewer than q of the block's records stand, it closes at s": how many records then have to be gone through, else 0.
-fn close(notes: &mut Notes, n: u32, second: u32) -> u32 {
-    if get(notes, log::USEFUL) <= word(notes, n, STANDING) {
+fn close(memory: &mut Memory, n: u32, second: u32) -> u32 {
+    if get(memory, USEFUL) <= at(memory, STANDING, n) {
         return 0;
     }
-    let closed = at(notes, n, CLOSED);
-    put(notes, closed, second);
-    word(notes, n, RECORDS)
+    put_at(memory, CLOSED, n, second);
+    get(memory, BLOCK)
 }
 
-// A standing record of the former last block ends and is written: the block that has just opened has room for all of these.
-fn carry(notes: &mut Notes, n: u32, k: u32) {
-    if stands(notes, n, k) == 1 {
-        end(notes, n, k);
-        let moved = tag(notes, n, k);
-        append(notes, moved);
+// How many records lie in the blocks before block n.
+pub fn before(memory: &Memory, n: u32) -> u32 {
+    product(less(n, 1), get(memory, BLOCK))
+}
+
+// There is no block, or the last has b records.
+fn is_full(memory: &Memory) -> bool {
+    get(memory, PLACED) == before(memory, sum(get(memory, BLOCKS), 1))
+}
+
+// A standing record ends and its tag is written to the last block, which has room.
+fn carry(memory: &mut Memory, place: u32) {
+    if stands(memory, place) {
+        let tag = end(memory, place);
+        append(memory, tag);
     }
 }
 
-// Judge, for the former last block.
-fn judge_former(notes: &mut Notes, n: u32, second: u32) {
-    let last = close(notes, n, second);
-    for k in 0..last {
-        carry(notes, n, k);
+// Judge, for the former last block: the block that has just opened has room for all that stand.
+fn judge_former(memory: &mut Memory, n: u32, second: u32) {
+    let first = sum(before(memory, n), 1);
+    let end = sum(first, close(memory, n, second));
+    for place in first..end {
+        carry(memory, place);
     }
 }
 
-// "Write: if there is no block or the last has b records, a block opens at s as the last, and the former last, if any, is judged; then the
-// tag goes, standing, to the end of the last block."
-fn write(notes: &mut Notes, tag: u32, second: u32) {
-    let former = get(notes, BLOCKS);
-    if former == 0 {
-        open(notes, second);
-    } else {
-        if word(notes, former, RECORDS) == get(notes, log::BLOCK) {
-            open(notes, second);
-            judge_former(notes, former, second);
+// "if there is no block or the last has b records, a block opens at s as the last, and the former last, if any, is judged"
+fn make_room(memory: &mut Memory, second: u32) {
+    if is_full(memory) {
+        let former = get(memory, BLOCKS);
+        let n = sum(former, 1);
+        put(memory, BLOCKS, n);
+        put_at(memory, OPENED, n, second);
+        put_at(memory, CLOSED, n, OPEN);
+        if former != 0 {
+            judge_former(memory, former, second);
         }
     }
-    append(notes, tag);
 }
 
 // A standing record of a judged block ends and is written, which may open a block.
-fn move_on(notes: &mut Notes, n: u32, k: u32, second: u32) {
-    if stands(notes, n, k) == 1 {
-        end(notes, n, k);
-        let moved = tag(notes, n, k);
-        write(notes, moved, second);
+fn move_on(memory: &mut Memory, place: u32, second: u32) {
+    if stands(memory, place) {
+        make_room(memory, second);
+        carry(memory, place);
     }
 }
 
 // "Judge: if fewer than q of the block's records stand, it closes at s, all of these end, and their tags are written in order."
-fn judge(notes: &mut Notes, n: u32, second: u32) {
-    let last = close(notes, n, second);
-    for k in 0..last {
-        move_on(notes, n, k, second);
+fn judge(memory: &mut Memory, n: u32, second: u32) {
+    let first = sum(before(memory, n), 1);
+    let end = sum(first, close(memory, n, second));
+    for place in first..end {
+        move_on(memory, place, second);
     }
-}
-
-// The block and the slot of the record at a place: before a block opens, the one before it has b records.
-pub fn block_of(notes: &Notes, place: u32) -> u32 {
-    sum(quotient(less(place, 1), get(notes, log::BLOCK)), 1)
-}
-
-pub fn slot_of(notes: &Notes, place: u32) -> u32 {
-    rest(less(place, 1), get(notes, log::BLOCK))
-}
-
-// The record at a place stands and has this tag.
-pub fn has_at(notes: &Notes, place: u32, wanted: u32) -> bool {
-    let n = block_of(notes, place);
-    let k = slot_of(notes, place);
-    if stands(notes, n, k) == 1 {
-        return tag(notes, n, k) == wanted;
-    }
-    false
-}
-
-// The place, from 1, of the tag's standing record; 0 if there is none.
-fn place_of(notes: &Notes, tag: u32) -> u32 {
-    let last = get(notes, PLACED);
-    for i in 0..last {
-        if has_at(notes, sum(i, 1), tag) {
-            return sum(i, 1);
-        }
-    }
-    0
 }
 
 // "A clear ends the tag's standing record and, if that is not in the last block, judges its block."
-fn clear(notes: &mut Notes, tag: u32, second: u32) {
-    let place = place_of(notes, tag);
-    if place == 0 {
-        return;
-    }
-    let n = block_of(notes, place);
-    let k = slot_of(notes, place);
-    end(notes, n, k);
-    if n != get(notes, BLOCKS) {
-        judge(notes, n, second);
+fn clear(memory: &mut Memory, tag: u32, second: u32) {
+    let place = at(memory, PLACES, tag);
+    let n = block_of(memory, place);
+    end(memory, place);
+    if n != get(memory, BLOCKS) {
+        judge(memory, n, second);
     }
 }
 
-// A set, clear or new reading, "the clear, then the set"; a clock move changes nothing.
-fn change(notes: &mut Notes, c: Change) {
-    if c.kind == SET {
-        write(notes, c.tag, c.second);
+// A set, a clear, or a new reading: "the clear, then the set". Makes it in the book, and takes it back where the book would then have more
+// than B blocks.
+pub fn takes(memory: &mut Memory, c: Change) -> bool {
+    copy(memory, FORMER, BOOK, LENGTH);
+    if c.kind != SET {
+        clear(memory, c.tag, c.second);
     }
-    if c.kind == CLEAR {
-        clear(notes, c.tag, c.second);
+    if c.kind != CLEAR {
+        make_room(memory, c.second);
+        append(memory, c.tag);
     }
-    if c.kind == UPDATE {
-        clear(notes, c.tag, c.second);
-        write(notes, c.tag, c.second);
+    let fits = get(memory, BLOCKS) <= get(memory, MOST_BLOCKS);
+    if !fits {
+        copy(memory, BOOK, FORMER, LENGTH);
     }
-}
-
-// Makes a change in the book, and takes it back where the book would then have more than B blocks.
-pub fn takes(notes: &mut Notes, c: Change) -> bool {
-    let next = sum(get(notes, BLOCKS), 1);
-    let length = less(at(notes, next, 0), BOOK);
-    copy(notes, FORMER, BOOK, length);
-    change(notes, c);
-    if get(notes, BLOCKS) <= get(notes, log::BLOCKS) {
-        return true;
-    }
-    copy(notes, BOOK, FORMER, length);
-    false
+    fits
 }
 
 // How many blocks were opened, or closed, by t.
-pub fn count_by(notes: &Notes, what: u32, t: u32) -> u32 {
-    let last = get(notes, BLOCKS);
+pub fn count_by(memory: &Memory, what: u32, t: u32) -> u32 {
+    let end = sum(get(memory, BLOCKS), 1);
     let mut found: u32 = 0;
-    for i in 0..last {
-        if word(notes, sum(i, 1), what) <= t {
+    for n in 1..end {
+        if at(memory, what, n) <= t {
             found = sum(found, 1);
         }
     }

@@ -1,102 +1,67 @@
 // What document 01 has a call answer after an honest history: 0, or the first refusal of its list that applies. UNSOUND never does.
-use crate::asked::ADVANCE;
-use crate::asked::Change;
-use crate::asked::LookBack;
-use crate::asked::SET;
+use crate::asked::*;
 use crate::book;
 use crate::log;
-use crate::notes::Notes;
-use crate::notes::get;
+use crate::memory::*;
 use crate::refusal;
 use crate::settings;
 use crate::settings::Settings;
-use crate::words::OPEN;
-use crate::words::product;
+use crate::words::*;
 
 const HEAD_WORDS: u32 = 16;
 
 pub fn start(s: Settings, length: u32) -> u32 {
-    if !settings::within(s) {
-        return refusal::SETTINGS;
-    }
-    if length < HEAD_WORDS {
-        return refusal::SHORT_HEAD;
-    }
-    if length < settings::layout(s) {
-        return refusal::SHORT_STORE;
-    }
-    0
+    let bad = unless(settings::within(s), refusal::SETTINGS);
+    let headless = unless(HEAD_WORDS <= length, refusal::SHORT_HEAD);
+    let short = unless(settings::layout(s) <= length, refusal::SHORT_STORE);
+    first(bad, first(headless, short))
 }
 
 // What every call but a start is refused for first. Before the first start the store has no mark.
-fn on_store(notes: &Notes, length: u32, second: u32) -> u32 {
-    if length < HEAD_WORDS {
-        return refusal::SHORT_HEAD;
-    }
-    if get(notes, log::STARTED) == 0 {
-        return refusal::HEAD;
-    }
-    if length < log::layout(notes) {
-        return refusal::SHORT_STORE;
-    }
-    if second == OPEN {
-        return refusal::TIME_OPEN;
-    }
-    0
+fn on_store(memory: &Memory, length: u32, second: u32) -> u32 {
+    let headless = unless(HEAD_WORDS <= length, refusal::SHORT_HEAD);
+    let unmarked = unless(get(memory, book::STARTED) != 0, refusal::HEAD);
+    let short = unless(book::layout(memory) <= length, refusal::SHORT_STORE);
+    let open = unless(second != OPEN, refusal::TIME_OPEN);
+    first(headless, first(unmarked, first(short, open)))
 }
 
 // Refusals for the tag of a change whose second is fine. All changes of the log are made by then, so that the state is the state so far.
-fn of_tag(notes: &mut Notes, c: Change) -> u32 {
-    if get(notes, log::TAGS) <= c.tag {
-        return refusal::TAG;
-    }
-    log::state_at(notes, c.second);
-    if log::fits(notes, c.kind, c.tag) {
-        return 0;
-    }
-    if c.kind == SET {
-        refusal::STANDING
+fn of_tag(memory: &Memory, c: Change) -> u32 {
+    let unknown = unless(c.tag < get(memory, book::TAGS), refusal::TAG);
+    let stands = log::state_at(memory, c.tag, c.second) != 0;
+    let standing = if c.kind == SET {
+        unless(!stands, refusal::STANDING)
     } else {
-        refusal::NOT_STANDING
+        unless(stands, refusal::NOT_STANDING)
+    };
+    first(unknown, standing)
+}
+
+// All that a change is refused for, but that the blocks run out. A clock move has no tag.
+fn of_change(memory: &Memory, c: Change) -> u32 {
+    let early = unless(get(memory, book::CLOCK) <= c.second, refusal::EARLY);
+    let timed = first(on_store(memory, c.length, c.second), early);
+    if c.kind == ADVANCE {
+        timed
+    } else {
+        first(timed, of_tag(memory, c))
     }
 }
 
 // Where nothing is due, the book has the change.
-pub fn change(notes: &mut Notes, c: Change) -> u32 {
-    let early = on_store(notes, c.length, c.second);
-    if early != 0 {
-        return early;
+pub fn change(memory: &mut Memory, c: Change) -> u32 {
+    let due = of_change(memory, c);
+    if (due == 0) & (c.kind != ADVANCE) {
+        return unless(book::takes(memory, c), refusal::OUT_OF_BLOCKS);
     }
-    if c.second < get(notes, log::CLOCK) {
-        return refusal::EARLY;
-    }
-    if c.kind == ADVANCE {
-        return 0;
-    }
-    let tagged = of_tag(notes, c);
-    if tagged != 0 {
-        return tagged;
-    }
-    if book::takes(notes, c) {
-        0
-    } else {
-        refusal::OUT_OF_BLOCKS
-    }
+    due
 }
 
-pub fn look_back(notes: &Notes, a: LookBack) -> u32 {
-    let early = on_store(notes, a.length, a.second);
-    if early != 0 {
-        return early;
-    }
-    if get(notes, log::CLOCK) < a.second {
-        return refusal::LATE;
-    }
-    if a.row_words < product(2, get(notes, log::TAGS)) {
-        return refusal::SHORT_BUFFER;
-    }
-    if a.list_words < get(notes, log::BLOCKS) {
-        return refusal::SHORT_BUFFER;
-    }
-    0
+pub fn look_back(memory: &Memory, a: LookBack) -> u32 {
+    let late = unless(a.second <= get(memory, book::CLOCK), refusal::LATE);
+    let rows = product(2, get(memory, book::TAGS)) <= a.row_words;
+    let list = get(memory, book::MOST_BLOCKS) <= a.list_words;
+    let short = unless(rows & list, refusal::SHORT_BUFFER);
+    first(on_store(memory, a.length, a.second), first(late, short))
 }

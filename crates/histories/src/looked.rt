@@ -1,26 +1,11 @@
-// What a look-back left, against the log and the book. Each function answers 0, or the number of what does not agree.
+// What a look-back left, against the log and the book. A finding is 0, or the number of what does not agree.
 use crate::asked::LookBack;
 use crate::book;
 use crate::calls::SPARE;
 use crate::log;
-use crate::notes::ANSWER;
-use crate::notes::LIST;
-use crate::notes::NAMED;
-use crate::notes::NAMED_END;
-use crate::notes::Notes;
-use crate::notes::ROWS;
-use crate::notes::STATE;
-use crate::notes::at;
-use crate::notes::fill;
-use crate::notes::get;
-use crate::notes::put_at;
+use crate::memory::*;
 use crate::refusal::UNSOUND;
-use crate::words::OPEN;
-use crate::words::less;
-use crate::words::mark;
-use crate::words::product;
-use crate::words::quotient;
-use crate::words::sum;
+use crate::words::*;
 
 const COUNTS: u32 = 10;
 
@@ -38,9 +23,6 @@ const AFTER: u32 = 16;
 
 const TOUCHED: u32 = 17;
 
-// A row is a tag and, in the word after it, a reading.
-const READINGS: u32 = ROWS + 1;
-
 // The answer's six words: how many rows, pages and blocks of the list, and the page of each of the three levels.
 pub const ROW_COUNT: u32 = ANSWER;
 
@@ -50,208 +32,143 @@ pub const LIST_COUNT: u32 = ANSWER + 2;
 
 const FIRST_PAGE: u32 = ANSWER + 3;
 
-const ANSWER_WORDS: u32 = 6;
-
-// Word i of a part: 0 before `zeros`, else its mark.
-fn is_left(notes: &Notes, part: u32, i: u32, zeros: u32) -> bool {
-    let left = at(notes, part, i);
-    if i < zeros {
-        return left == 0;
-    }
-    left == mark(i)
+// A buffer has zeros before word `zeros`, and from word `from` on marks, also some beyond the lent words.
+fn is_left(memory: &Memory, part: u32, zeros: u32, from: u32, lent: u32) -> bool {
+    let length = less(sum(lent, SPARE), from);
+    same(memory, part, ZEROS, zeros) & same(memory, sum(part, from), sum(MARKS, from), length)
 }
 
-// Words `from` to before `end` of a part are left so.
-fn are_left(notes: &Notes, part: u32, from: u32, zeros: u32, end: u32) -> bool {
-    for i in from..end {
-        if !is_left(notes, part, i, zeros) {
-            return false;
-        }
-    }
-    true
+// An answered look-back has left the words after its rows and its list; the counts fit the lent words.
+fn rest_left(memory: &Memory, a: LookBack) -> u32 {
+    let used = product(2, get(memory, ROW_COUNT));
+    let named = get(memory, LIST_COUNT);
+    let fit = (used <= a.row_words) & (named <= a.list_words);
+    let rows = is_left(memory, ROWS, 0, used, a.row_words);
+    let list = is_left(memory, LIST, 0, named, a.list_words);
+    first(unless(fit, COUNTS), unless(rows & list, AFTER))
 }
 
-// An answered look-back has left the words after its rows and its list, also those beyond the lent buffers; the counts fit these.
-fn rest_left(notes: &Notes, a: LookBack) -> u32 {
-    let used = product(2, get(notes, ROW_COUNT));
-    let named = get(notes, LIST_COUNT);
-    if a.row_words < used {
-        return COUNTS;
-    }
-    if a.list_words < named {
-        return COUNTS;
-    }
-    if !are_left(notes, ROWS, used, 0, sum(a.row_words, SPARE)) {
-        return AFTER;
-    }
-    if !are_left(notes, LIST, named, 0, sum(a.list_words, SPARE)) {
-        return AFTER;
-    }
-    0
+// A refused one has left its answer's words and its buffers; but one that finds the store unsound fills both buffers with zeros.
+fn all_left(memory: &Memory, a: LookBack, filled: u32) -> u32 {
+    let row_zeros = product(filled, a.row_words);
+    let list_zeros = product(filled, a.list_words);
+    let rows = is_left(memory, ROWS, row_zeros, row_zeros, a.row_words);
+    let list = is_left(memory, LIST, list_zeros, list_zeros, a.list_words);
+    unless(rows & list & same(memory, ANSWER, MARKS, 6), TOUCHED)
 }
 
-// A refused one has left its answer's words, and of each buffer those from `rows` and `list` on; before them stand zeros.
-fn all_left(notes: &Notes, a: LookBack, rows: u32, list: u32) -> u32 {
-    if !are_left(notes, ROWS, 0, rows, sum(a.row_words, SPARE)) {
-        return TOUCHED;
-    }
-    if !are_left(notes, LIST, 0, list, sum(a.list_words, SPARE)) {
-        return TOUCHED;
-    }
-    if !are_left(notes, ANSWER, 0, 0, ANSWER_WORDS) {
-        return TOUCHED;
-    }
-    0
-}
-
-// What is left by a look-back that was answered `got`. One that finds the store unsound fills both buffers with zeros.
-pub fn left(notes: &Notes, a: LookBack, got: u32) -> u32 {
+// What is left by a look-back that was answered `got`.
+pub fn left(memory: &Memory, a: LookBack, got: u32) -> u32 {
     if got == 0 {
-        return rest_left(notes, a);
+        return rest_left(memory, a);
     }
-    if got == UNSOUND {
-        return all_left(notes, a, a.row_words, a.list_words);
-    }
-    all_left(notes, a, 0, 0)
+    all_left(memory, a, unless(got != UNSOUND, 1))
 }
 
-// A row of the state: a tag that stands, with its reading.
-fn in_state(notes: &Notes, tag: u32, reading: u32) -> bool {
-    if get(notes, log::TAGS) <= tag {
-        return false;
-    }
-    if log::stands(notes, tag) {
-        return log::reading(notes, tag) == reading;
-    }
-    false
-}
-
-// The rows are the log's state at t, order aside. Each row takes its tag out of the state, so that none stands twice.
-fn rows_agree(notes: &mut Notes, t: u32) -> u32 {
-    log::state_at(notes, t);
-    let count = get(notes, ROW_COUNT);
-    if count != log::standing(notes) {
-        return ROW;
-    }
+// How often two words stand at the ends of one of the first steps of a part: in a row a tag and its reading, in the list one block.
+fn times(memory: &Memory, part: u32, step: u32, count: u32, x: u32, y: u32) -> u32 {
+    let mut found: u32 = 0;
     for i in 0..count {
-        let tag = at(notes, ROWS, product(2, i));
-        let reading = at(notes, READINGS, product(2, i));
-        if !in_state(notes, tag, reading) {
-            return ROW;
+        let start = sum(part, product(step, i));
+        if (get(memory, start) == x) & (at(memory, start, less(step, 1)) == y) {
+            found = sum(found, 1);
         }
-        put_at(notes, STATE, tag, 0);
     }
-    0
+    found
 }
 
-// A block of the book that no entry of the list has named yet.
-fn unnamed(notes: &Notes, n: u32) -> bool {
-    if n == 0 {
-        return false;
+// How many rows are due for a tag at t: one if it stands, with its reading; more than there are if it has no such row, or several.
+fn rows_due(memory: &Memory, tag: u32, t: u32) -> u32 {
+    let made = log::state_at(memory, tag, t);
+    if made == 0 {
+        return 0;
     }
-    if get(notes, book::BLOCKS) < n {
-        return false;
+    let count = least(get(memory, ROW_COUNT), 320);
+    let reading = at(memory, log::change(made), log::READING);
+    let once = times(memory, ROWS, 2, count, tag, reading) == 1;
+    if once { 1 } else { 65536 }
+}
+
+// The rows are the log's state at t, order aside.
+fn rows_agree(memory: &Memory, t: u32) -> u32 {
+    let tags = get(memory, book::TAGS);
+    let mut due: u32 = 0;
+    for tag in 0..tags {
+        due = sum(due, rows_due(memory, tag, t));
     }
-    at(notes, NAMED, n) == 0
+    unless(due == get(memory, ROW_COUNT), ROW)
+}
+
+// The list names a block of the book, and once.
+fn is_listed(memory: &Memory, n: u32) -> bool {
+    let count = least(get(memory, LIST_COUNT), 640);
+    (n != 0) & (n <= get(memory, book::BLOCKS)) & (times(memory, LIST, 1, count, n, n) == 1)
 }
 
 // The list names blocks of the book, none twice.
-fn list_agrees(notes: &mut Notes) -> u32 {
-    fill(notes, NAMED, NAMED_END, 0);
-    let count = get(notes, LIST_COUNT);
+fn list_agrees(memory: &Memory) -> u32 {
+    let count = get(memory, LIST_COUNT);
     for i in 0..count {
-        let n = at(notes, LIST, i);
-        if !unnamed(notes, n) {
+        if !is_listed(memory, at(memory, LIST, i)) {
             return NOT_LISTED;
         }
-        put_at(notes, NAMED, n, 1);
     }
     0
 }
 
 // "A block is open at t if opened ≤ t < closed." The list has at most twice the blocks open at t, and those open, times q, are no more than
 // the rows plus q.
-fn limits(notes: &Notes, t: u32) -> u32 {
-    let opened = book::count_by(notes, book::OPENED, t);
-    let open = less(opened, book::count_by(notes, book::CLOSED, t));
-    if product(2, open) < get(notes, LIST_COUNT) {
-        return TWICE;
-    }
-    let useful = get(notes, log::USEFUL);
-    if sum(get(notes, ROW_COUNT), useful) < product(open, useful) {
-        return USEFUL;
-    }
-    0
+fn limits(memory: &Memory, t: u32) -> u32 {
+    let opened = book::count_by(memory, book::OPENED, t);
+    let open = less(opened, book::count_by(memory, book::CLOSED, t));
+    let useful = get(memory, book::USEFUL);
+    let twice = get(memory, LIST_COUNT) <= product(2, open);
+    let enough = product(open, useful) <= sum(get(memory, ROW_COUNT), useful);
+    first(unless(twice, TWICE), unless(enough, USEFUL))
 }
 
-// How many blocks lie under one page of a level.
-fn page_blocks(level: u32) -> u32 {
-    match level {
-        0 => 16,
-        1 => 256,
-        _ => 4096,
-    }
-}
-
-// The page of a level that the last block opened by t leads through, counted from 0 in its level; OPEN if none is passed. The top level is
-// the lowest that has all blocks under one page.
-fn page_due(notes: &Notes, t: u32, level: u32) -> u32 {
-    let blocks = get(notes, book::BLOCKS);
-    if blocks == 0 {
+// The page of a level that the last block opened by t leads through, counted from 0 in its level; OPEN if none is passed. Under one page of
+// it lie `blocks`, under one of the level below `fewer`. The top level is the lowest that has all blocks under one page.
+fn page_due(memory: &Memory, t: u32, fewer: u32, blocks: u32) -> u32 {
+    let all = get(memory, book::BLOCKS);
+    if all <= fewer {
         return OPEN;
     }
-    if 0 < level {
-        if blocks <= page_blocks(level - 1) {
-            return OPEN;
-        }
-    }
-    if blocks <= page_blocks(level) {
+    if all <= blocks {
         return 0;
     }
-    let n = book::count_by(notes, book::OPENED, t);
+    let n = book::count_by(memory, book::OPENED, t);
     if n == 0 {
         return OPEN;
     }
-    quotient(less(n, 1), page_blocks(level))
+    quotient(less(n, 1), blocks)
 }
 
 fn passed(page: u32) -> u32 {
-    if page == OPEN { 0 } else { 1 }
+    unless(page == OPEN, 1)
 }
 
 // The pages of the three levels, and how many they are.
-fn pages_agree(notes: &Notes, t: u32) -> u32 {
-    let lowest = page_due(notes, t, 0);
-    let middle = page_due(notes, t, 1);
-    let highest = page_due(notes, t, 2);
-    if get(notes, FIRST_PAGE) != lowest {
-        return PAGES;
-    }
-    if get(notes, FIRST_PAGE + 1) != middle {
-        return PAGES;
-    }
-    if get(notes, FIRST_PAGE + 2) != highest {
-        return PAGES;
-    }
-    if get(notes, PAGE_COUNT) != sum(passed(lowest), sum(passed(middle), passed(highest))) {
-        return COUNTS;
-    }
-    0
+fn pages_agree(memory: &Memory, t: u32) -> u32 {
+    let lowest = page_due(memory, t, 0, 16);
+    let middle = page_due(memory, t, 16, 256);
+    let highest = page_due(memory, t, 256, 4096);
+    let differs = (get(memory, FIRST_PAGE) ^ lowest)
+        | (get(memory, FIRST_PAGE + 1) ^ middle)
+        | (get(memory, FIRST_PAGE + 2) ^ highest);
+    let count = sum(passed(lowest), sum(passed(middle), passed(highest)));
+    let counted = get(memory, PAGE_COUNT) == count;
+    first(unless(differs == 0, PAGES), unless(counted, COUNTS))
 }
 
-// Rows, list, limits and pages of an answer at t.
-pub fn answer_agrees(notes: &mut Notes, t: u32) -> u32 {
-    let mut found = rows_agree(notes, t);
-    if found != 0 {
-        return found;
+// All that a look-back answered `got` comes to after an honest history: what is left, and of an answer rows, list, limits and pages.
+pub fn agrees(memory: &Memory, a: LookBack, got: u32) -> u32 {
+    let left = left(memory, a, got);
+    if got != 0 {
+        return left;
     }
-    found = list_agrees(notes);
-    if found != 0 {
-        return found;
-    }
-    found = limits(notes, t);
-    if found != 0 {
-        return found;
-    }
-    pages_agree(notes, t)
+    let t = a.second;
+    let named = first(rows_agree(memory, t), list_agrees(memory));
+    let counted = first(limits(memory, t), pages_agree(memory, t));
+    first(left, first(named, counted))
 }

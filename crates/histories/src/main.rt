@@ -11,15 +11,14 @@ mod due;
 mod history;
 mod log;
 mod looked;
-mod notes;
+mod memory;
 mod random;
 mod refusal;
 mod settings;
 mod tally;
 mod words;
 
-use notes::Notes;
-use notes::Store;
+use memory::*;
 
 // Histories of 200 calls, and long ones, in which the index gets its third level.
 const HISTORIES: u32 = 5000;
@@ -31,29 +30,26 @@ const LONG_HISTORIES: u32 = 24;
 const LONG_CALLS: u32 = 2000;
 
 // One history, then rounds on its damaged store.
-fn one(store: &mut Store, notes: &mut Notes, history: u32) {
-    random::seed(notes, history);
-    tally::begin_history(notes, history);
+fn one(memory: &mut Memory, history: u32) {
+    random::seed(memory, history);
+    tally::begin_history(memory, history);
     if history < HISTORIES {
-        let s = settings::listed(history % settings::LISTED);
-        history::play(store, notes, s, CALLS);
+        history::play(memory, settings::listed(history % settings::LISTED), CALLS);
     } else {
-        let s = settings::listed(settings::LISTED);
-        history::play(store, notes, s, LONG_CALLS);
+        history::play(memory, settings::listed(settings::LISTED), LONG_CALLS);
     }
-    damaged::rounds(store, notes);
+    damaged::rounds(memory);
 }
 
-fn all(store: &mut Store, notes: &mut Notes) {
-    let last = HISTORIES + LONG_HISTORIES;
-    for history in 0..last {
-        one(store, notes, history);
+fn all(memory: &mut Memory) {
+    for history in 0..HISTORIES + LONG_HISTORIES {
+        one(memory, history);
     }
 }
 
 fn main() {
-    let mut store = [0u32; 16384];
-    let mut notes = [0u32; 65536];
-    all(&mut store, &mut notes);
-    tally::print(&notes);
+    let mut memory = [0u32; 81920];
+    fill(&mut memory, MARKS, ZEROS, words::MARK - MARKS, 1);
+    all(&mut memory);
+    tally::print(&memory);
 }

@@ -1,7 +1,5 @@
 // The settings that the histories run with, and where document 01 lays each word of a store with them.
-use crate::words::less;
-use crate::words::product;
-use crate::words::sum;
+use crate::words::*;
 
 pub struct Settings {
     // b: records in a block
@@ -71,34 +69,27 @@ pub fn between(low: u32, x: u32, high: u32) -> bool {
 
 // "b 2 to 64, q at least 1 with 2q ≤ b, block limit B 1 to 4,096, D 1 to 4,096"
 pub fn within(s: Settings) -> bool {
-    if !between(2, s.block, 64) {
-        return false;
-    }
-    if !between(1, s.useful, s.block / 2) {
-        return false;
-    }
-    if !between(1, s.blocks, 4096) {
-        return false;
-    }
-    between(1, s.tags, 4096)
+    between(2, s.block, 64)
+        & between(1, s.useful, s.block / 2)
+        & between(1, s.blocks, 4096)
+        & between(1, s.tags, 4096)
 }
 
 // Where the directory starts: after the head's 16 words and the index's 4,096 + 256 + 16. The blocks follow it.
 pub const DIRECTORY: u32 = 4384;
 
-// Word j of block n, n from 1.
-pub fn block_word(s: Settings, n: u32, j: u32) -> u32 {
+// The first word of block n, n from 1.
+pub fn block_start(s: Settings, n: u32) -> u32 {
     let length = sum(8, product(4, s.block));
-    let first = sum(DIRECTORY, s.tags);
-    sum(sum(first, product(less(n, 1), length)), j)
+    sum(sum(DIRECTORY, s.tags), product(less(n, 1), length))
 }
 
 // How many words a store has: the next would be the first of the block after the last.
 pub fn layout(s: Settings) -> u32 {
-    block_word(s, sum(s.blocks, 1), 0)
+    block_start(s, sum(s.blocks, 1))
 }
 
-// Word j of slot k of block n.
-pub fn slot_word(s: Settings, n: u32, k: u32, j: u32) -> u32 {
-    block_word(s, n, sum(sum(8, product(4, k)), j))
+// The first word of slot k of block n.
+pub fn slot_start(s: Settings, n: u32, k: u32) -> u32 {
+    sum(block_start(s, n), sum(8, product(4, k)))
 }

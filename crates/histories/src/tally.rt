@@ -1,108 +1,82 @@
 // The totals, and what is printed.
-use crate::notes::Notes;
-use crate::notes::TALLY;
-use crate::notes::add;
-use crate::notes::get;
-use crate::notes::put;
-use crate::words::sum;
+use crate::memory::*;
+use crate::words::*;
 
-// Answers by number, 0 to 13: those of the calls of histories, and those of calls on damaged stores.
-const ANSWERS: u32 = TALLY;
+// In the order in which they are printed:
+const HISTORIES: u32 = TALLY;
 
-const DAMAGED: u32 = TALLY + 16;
-
-// The history that runs, its call, and 1 once something of it did not agree.
-const HISTORY: u32 = TALLY + 32;
-
-pub const CALL: u32 = TALLY + 33;
-
-pub const STOPPED: u32 = TALLY + 34;
-
-const HISTORIES: u32 = TALLY + 35;
-
-const CALLS: u32 = TALLY + 36;
+const CALLS: u32 = TALLY + 1;
 
 // Accepted starts, changes and clock moves.
-pub const ACCEPTED: u32 = TALLY + 37;
+pub const ACCEPTED: u32 = TALLY + 2;
 
-pub const LOOK_BACKS: u32 = TALLY + 38;
+pub const LOOK_BACKS: u32 = TALLY + 3;
 
-pub const ROWS: u32 = TALLY + 39;
+// Behind it the rows that these gave, and the blocks that they listed; behind the blocks opened those closed.
+pub const OPENED: u32 = TALLY + 6;
 
-pub const LISTED: u32 = TALLY + 40;
+pub const BLOCKS_MOST: u32 = TALLY + 8;
 
-pub const OPENED: u32 = TALLY + 41;
+// Answers by number, 0 to 13: those of the calls of histories, and those of calls on damaged stores.
+const ANSWERS: u32 = TALLY + 9;
 
-pub const CLOSED: u32 = TALLY + 42;
+const DAMAGED_CALLS: u32 = ANSWERS + 14;
 
-pub const BLOCKS_MOST: u32 = TALLY + 43;
+const DAMAGED: u32 = ANSWERS + 15;
 
-const DAMAGED_CALLS: u32 = TALLY + 44;
+const MISMATCHES: u32 = ANSWERS + 29;
 
-const MISMATCHES: u32 = TALLY + 45;
+// The history that runs, its call, and what of it did not agree, or 0.
+const HISTORY: u32 = TALLY + 64;
 
-// How many answers there are: 0 and thirteen refusals.
-const NUMBERS: u32 = 14;
+pub const CALL: u32 = TALLY + 65;
+
+pub const STOPPED: u32 = TALLY + 66;
 
 const STDOUT: i32 = 1;
 
-fn number(n: u32) {
-    io::print_decimal(STDOUT, n as u64);
-}
-
-// A line of a name and a number.
-fn line(name: &[u8], n: u32) {
-    io::write_all(STDOUT, name);
-    number(n);
-    io::write_all(STDOUT, b"\n");
-}
-
-// A line `mismatch HISTORY CALL WHAT`.
-fn print_mismatch(notes: &Notes, what: u32) {
-    io::write_all(STDOUT, b"mismatch ");
-    number(get(notes, HISTORY));
-    io::write_all(STDOUT, b" ");
-    number(get(notes, CALL));
-    line(b" ", what);
+// Writes a text, and in the place of each `#` the next number from word `from` on.
+fn tell(memory: &Memory, from: u32, text: &[u8]) {
+    let end = text.len();
+    let mut next = from;
+    for i in 0..end {
+        if text[i] == b'#' {
+            io::print_decimal(STDOUT, get(memory, next) as u64);
+            next = sum(next, 1);
+        } else {
+            let after = i + 1;
+            io::write_all(STDOUT, &text[i..after]);
+        }
+    }
 }
 
 // Notes what was found: 0 is nothing; else the history ends there, and the first twenty are printed.
-pub fn note(notes: &mut Notes, what: u32) {
+pub fn note(memory: &mut Memory, what: u32) {
     if what == 0 {
         return;
     }
-    put(notes, STOPPED, 1);
-    add(notes, MISMATCHES, 1);
-    if get(notes, MISMATCHES) <= 20 {
-        print_mismatch(notes, what);
+    put(memory, STOPPED, what);
+    add(memory, MISMATCHES, 1);
+    if get(memory, MISMATCHES) <= 20 {
+        tell(memory, HISTORY, b"mismatch # # #\n");
     }
 }
 
-// Notes `what` unless something holds.
-pub fn hold(notes: &mut Notes, holds: bool, what: u32) {
-    if holds {
-        return;
-    }
-    note(notes, what);
-}
-
-pub fn begin_history(notes: &mut Notes, history: u32) {
-    put(notes, HISTORY, history);
-    put(notes, CALL, 0);
-    put(notes, STOPPED, 0);
-    add(notes, HISTORIES, 1);
+pub fn begin_history(memory: &mut Memory, history: u32) {
+    put_four(memory, HISTORY, history, 0, 0, 0);
+    add(memory, HISTORIES, 1);
 }
 
 // An answer that is not the one due.
 const NOT_DUE: u32 = 1;
 
 // Counts the answer of a call of a history, and notes one that is not due.
-pub fn answered(notes: &mut Notes, due: u32, got: u32) {
-    add(notes, CALLS, 1);
+pub fn answered(memory: &mut Memory, due: u32, got: u32) {
+    add(memory, CALLS, 1);
     if due == got {
-        add(notes, sum(ANSWERS, got), 1);
+        add(memory, sum(ANSWERS, got), 1);
     } else {
-        note(notes, NOT_DUE);
+        note(memory, NOT_DUE);
     }
 }
 
@@ -110,44 +84,63 @@ pub fn answered(notes: &mut Notes, due: u32, got: u32) {
 const NEVER: u32 = 20;
 
 // Counts the answer of a call on a damaged store, and notes one that the call can never give.
-pub fn answered_damaged(notes: &mut Notes, may: bool, got: u32) {
-    add(notes, DAMAGED_CALLS, 1);
-    add(notes, CALL, 1);
-    if got < NUMBERS {
-        add(notes, sum(DAMAGED, got), 1);
-    }
-    hold(notes, may, NEVER);
-}
-
-// For each answer from `first` on, a line of a name, its number and how often it came.
-fn answers(notes: &Notes, name: &[u8], part: u32, first: u32) {
-    for i in first..NUMBERS {
-        io::write_all(STDOUT, name);
-        number(i);
-        total(notes, b": ", sum(part, i));
+pub fn answered_damaged(memory: &mut Memory, may: bool, got: u32) {
+    add(memory, DAMAGED_CALLS, 1);
+    add(memory, CALL, 1);
+    if may {
+        add(memory, sum(DAMAGED, got), 1);
+    } else {
+        note(memory, NEVER);
     }
 }
 
-fn total(notes: &Notes, name: &[u8], i: u32) {
-    line(name, get(notes, i));
-}
-
-pub fn print(notes: &Notes) {
-    total(notes, b"histories ", HISTORIES);
-    total(notes, b"calls ", CALLS);
-    total(
-        notes,
-        b"accepted starts, changes and clock moves ",
-        ACCEPTED,
+pub fn print(memory: &Memory) {
+    tell(
+        memory,
+        TALLY,
+        b"histories #
+calls #
+accepted starts, changes and clock moves #
+look-backs answered #
+rows compared #
+blocks listed #
+blocks opened #
+blocks closed #
+most blocks in a history #
+",
     );
-    total(notes, b"look-backs answered ", LOOK_BACKS);
-    total(notes, b"rows compared ", ROWS);
-    total(notes, b"blocks listed ", LISTED);
-    total(notes, b"blocks opened ", OPENED);
-    total(notes, b"blocks closed ", CLOSED);
-    total(notes, b"most blocks in a history ", BLOCKS_MOST);
-    answers(notes, b"refusal ", ANSWERS, 1);
-    total(notes, b"calls on damaged stores ", DAMAGED_CALLS);
-    answers(notes, b"damaged, answer ", DAMAGED, 0);
-    total(notes, b"mismatches ", MISMATCHES);
+    tell(
+        memory,
+        ANSWERS + 1,
+        b"refusal 1: #
+refusal 2: #
+refusal 3: #
+refusal 4: #
+refusal 5: #
+refusal 6: #
+refusal 7: #
+refusal 8: #
+refusal 9: #
+refusal 10: #
+refusal 11: #
+refusal 12: #
+refusal 13: #
+calls on damaged stores #
+damaged, answer 0: #
+damaged, answer 1: #
+damaged, answer 2: #
+damaged, answer 3: #
+damaged, answer 4: #
+damaged, answer 5: #
+damaged, answer 6: #
+damaged, answer 7: #
+damaged, answer 8: #
+damaged, answer 9: #
+damaged, answer 10: #
+damaged, answer 11: #
+damaged, answer 12: #
+damaged, answer 13: #
+mismatches #
+",
+    );
 }

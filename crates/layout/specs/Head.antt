@@ -11,11 +11,12 @@ use Rattle.layout.specs.declared.head.HeadAnswer.{HeadAnswer}
 use Rattle.layout.specs.declared.head.HeadAnswer.the-variants.{Read, Refused}
 use Rattle.layout.specs.Sizes.{OPEN, mark, headLen, layoutLen}
 use Rattle.layout.specs.Fields.{headMark, headBlock, headUseful, headBlocks, headTags, headOpened, headClock, headFill, headChild, headRight, headSpare}
+use Rattle.layout.specs.RefusalNumbers.{SHORT-HEAD, HEAD}
 use Rattle.layout.specs.Settings.{inLimits}
 
 -- the head that a start leaves: no block is opened, and the clock is 0
-abbrev pub fresh : Settings → Head
-fresh s = record { settings = s; cursor = record { opened = 0; clock = 0; fill = 0; child = 0; right = 0 } }
+abbrev pub freshHead : Settings → Head
+freshHead s = record { settings = s; cursor = record { opened = 0; clock = 0; fill = 0; child = 0; right = 0 } }
 
 -- the head moves on: its settings stay
 abbrev pub onward : Head → Cursor → Head
@@ -65,13 +66,17 @@ badHead ws =
     not (eqb (getD ws headMark 0) mark) || not (inLimits (h .settings)) || ltb (h .settings .blocks) (h .cursor .opened)
     || eqb (h .cursor .clock) OPEN || not (spareZero ws) || not (fillFits h)
 
--- refusal 2 or 3 of a head, 0 for none
-abbrev pub headRefusal : List ℕ → ℕ
-headRefusal ws = cond (ltb (length ws) headLen) 2 (cond (badHead ws) 3 0)
-
--- what reading the head answers: refusal 2, refusal 3, or the head
+-- what reading the head answers: it is too short, it is bad, or the head
 unfoldable pub headAnswer : List ℕ → HeadAnswer
-headAnswer ws = cond (ltb (length ws) headLen) (Refused 2) (cond (badHead ws) (Refused 3) (Read (headOf ws)))
+headAnswer ws = cond (ltb (length ws) headLen) (Refused SHORT-HEAD) (cond (badHead ws) (Refused HEAD) (Read (headOf ws)))
+
+-- the number of a refusal, 0 for a head
+abbrev pub headNumber : HeadAnswer → ℕ
+headNumber (Read h) = 0
+headNumber (Refused n) = n
+
+abbrev pub headRefusal : List ℕ → ℕ
+headRefusal ws = headNumber (headAnswer ws)
 
 -- records placed: 0 for N = 0, else (N − 1) × b + fill
 unfoldable pub placed : Head → ℕ

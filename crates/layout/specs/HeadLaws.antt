@@ -11,12 +11,14 @@ use lib.ListN.{length, getD, length-drop}
 use borrow.Author.Tests.{eqb-true, eqb-false, eq-eqb, ne-eqb, ltb-false, le-ltb, leb-true, le-leb, not-false}
 use Rattle.base.specs.Branch.{by-test, is?, and-true, or-false}
 use Rattle.layout.specs.declared.head.Head.{Head}
+use Rattle.layout.specs.declared.head.HeadAnswer.{HeadAnswer}
 use Rattle.layout.specs.declared.head.HeadAnswer.the-variants.{Read, Refused}
 use Rattle.layout.specs.Sizes.{OPEN, mark, headLen}
 use Rattle.layout.specs.Fields.{headMark, headSpare}
+use Rattle.layout.specs.RefusalNumbers.{SHORT-HEAD, HEAD}
 use Rattle.layout.specs.Settings.{inLimits, Within}
 use Rattle.layout.specs.SettingsLaws.{limits-within, within-limits}
-use Rattle.layout.specs.Head.{headOf, headWords, withHead, fillFits, spareZero, badHead, headRefusal, headAnswer}
+use Rattle.layout.specs.Head.{headOf, headWords, withHead, fillFits, spareZero, badHead, headAnswer, headNumber, headRefusal}
 
 -- a head within its limits: settings, blocks opened, clock, and the fill rule (0 for N = 0, else 1 to b)
 pub record SoundHead (h : Head) : Type 0 where
@@ -98,48 +100,41 @@ module _ (ws : List ℕ) where
         spare = not-false _ (s .1);
       }
 
+  -- where there is no refusal, the store has a head that is not bad,
+  pub head-passes : headRefusal ws ≡ 0 → (headLen ≤ length ws) × (badHead ws ≡ false)
+  unfolding headAnswer
+  head-passes = by-test (ltb (length ws) headLen)
+      (λ t. headNumber (cond t (Refused SHORT-HEAD) (cond (badHead ws) (Refused HEAD) (Read (headOf ws)))) ≡ 0 → (headLen ≤ length ws) × (badHead ws ≡ false))
+      (λ a e. absurd (omega arith))
+      (λ a. by-test (badHead ws)
+      (λ t. headNumber (cond t (Refused HEAD) (Read (headOf ws))) ≡ 0 → (headLen ≤ length ws) × (t ≡ false))
+      (λ b e. absurd (omega arith))
+      (λ b e. (ltb-false _ _ a, refl)))
+
+  -- and that head is the answer
+  pub passes-read : headLen ≤ length ws → badHead ws ≡ false → headAnswer ws ≡ Read (headOf ws)
+  unfolding headAnswer
+  passes-read l b = simp (le-ltb (length ws) headLen l, b)
+
   -- What `read_head` answered as a head is the head of a sound store. (A word fits 32 bits, so that a clock other than OPEN is below it.)
   pub head-read : {h : Head} → headAnswer ws ≡ Read h → h .cursor .clock ≤ OPEN → HeadRead ws h
-  unfolding headAnswer
-  head-read {h} = by-test (ltb (length ws) headLen)
-      (λ t. cond t (Refused 2) (cond (badHead ws) (Refused 3) (Read (headOf ws))) ≡ Read h → h .cursor .clock ≤ OPEN → HeadRead ws h)
-      (λ e k. let z : _≡_ {A = ℕ} 0 1 = cc in absurd (omega arith))
-      (λ l. by-test (badHead ws)
-      (λ t. cond t (Refused 3) (Read (headOf ws)) ≡ Read h → h .cursor .clock ≤ OPEN → HeadRead ws h)
-      (λ e k. let z : _≡_ {A = ℕ} 0 1 = cc in absurd (omega arith))
-      (λ g k c. let e : h ≡ headOf ws = cc in rw e (passes (ltb-false _ _ l) (rw e at c) g)))
+  head-read {h} a k =
+      let p = head-passes (ap headNumber a) in
+      let e : h ≡ headOf ws = cc (passes-read (p .0) (p .1)) in
+      rw e (passes (p .0) (rw e at k) (p .1))
 
   -- and back: such a store is read again
   pub read-again : {h : Head} → HeadRead ws h → headAnswer ws ≡ Read h
-  unfolding headAnswer
   read-again {h} r =
       let g = r .sound in
       let b : badHead ws ≡ false = bad-head ws (r .is) (eq-eqb _ _ (r .marked)) (within-limits _ (g .within)) (le-ltb _ _ (g .opened))
       (ne-eqb (h .cursor .clock) OPEN (λ e. omega arith)) (r .spare) (rule-fill h g) in
-      simp (le-ltb _ _ (r .long), b, ← (r .is))
+      rw (r .is) (passes-read (r .long) b)
 
-  -- The answer by the refusal's number: a refusal,
-  pub answer-refused : {n : ℕ} → n ≡ headRefusal ws → n ≢ 0 → Refused n ≡ headAnswer ws
-  unfolding headAnswer
-  answer-refused {n} = by-test (ltb (length ws) headLen)
-      (λ t. n ≡ cond t 2 (cond (badHead ws) 3 0) → n ≢ 0 → Refused n ≡ cond t (Refused 2) (cond (badHead ws) (Refused 3) (Read (headOf ws))))
-      (λ a e d. ap Refused e)
-      (λ a. by-test (badHead ws)
-      (λ t. n ≡ cond t 3 0 → n ≢ 0 → Refused n ≡ cond t (Refused 3) (Read (headOf ws)))
-      (λ b e d. ap Refused e)
-      (λ b e d. absurd (d e)))
-
-  -- or the head of a store that is long enough.
-  pub answer-read : {n : ℕ} → n ≡ headRefusal ws → n ≡ 0 → (headLen ≤ length ws) × (Read (headOf ws) ≡ headAnswer ws)
-  unfolding headAnswer
-  answer-read {n} = by-test (ltb (length ws) headLen)
-      (λ t. n ≡ cond t 2 (cond (badHead ws) 3 0) → n ≡ 0
-      → (headLen ≤ length ws) × (Read (headOf ws) ≡ cond t (Refused 2) (cond (badHead ws) (Refused 3) (Read (headOf ws)))))
-      (λ a e z. absurd (omega arith))
-      (λ a. by-test (badHead ws)
-      (λ t. n ≡ cond t 3 0 → n ≡ 0 → (headLen ≤ length ws) × (Read (headOf ws) ≡ cond t (Refused 3) (Read (headOf ws))))
-      (λ b e z. absurd (omega arith))
-      (λ b e z. (ltb-false _ _ a, refl)))
+-- An answer by its refusal number: a number is that refusal.
+pub answer-refused : (a : HeadAnswer) {n : ℕ} → n ≡ headNumber a → n ≢ 0 → Refused n ≡ a
+answer-refused (Read h) e d = absurd (d e)
+answer-refused (Refused m) e d = ap Refused e
 
 -- A sound head that is written is read back.
 pub head-written : (h : Head) (ws : List ℕ) → SoundHead h → headLen ≤ length ws → HeadRead (withHead h ws) h

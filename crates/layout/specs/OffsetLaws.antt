@@ -15,7 +15,7 @@ use Rattle.layout.specs.Settings.{Within}
 use Rattle.layout.specs.Words.{readWord, writeWord, wipeBlock}
 use Rattle.layout.specs.Ran.{Ran}
 use Rattle.layout.specs.OnWords.{over, Held, held-fits, fits-same}
-use Rattle.layout.specs.SettingsLaws.{BlockLong, layout-len, layout-least, layout-most}
+use Rattle.layout.specs.SettingsLaws.{BlockLong, layout-len, layout-most}
 use Rattle.layout.specs.AddressLaws.{offset-below}
 
 -- level l starts at r
@@ -30,7 +30,7 @@ pub record BlockAt (s : Settings) (n r : ℕ) : Type 0 where
   pub small : layoutLen s ≤ layoutMost
 
 -- the word a lies at r
-pub record Placed (s : Settings) (a : Address) (r : ℕ) : Type 0 where
+pub record AtOffset (s : Settings) (a : Address) (r : ℕ) : Type 0 where
   pub is : r ≡ offset s a
   pub below : r < layoutLen s
   pub small : layoutLen s ≤ layoutMost
@@ -60,35 +60,31 @@ module _ {s : Settings} {n b : ℕ} (v : Numbered s n) (w : Within s) (e : Block
 pub valid-as : (s : Settings) {a x : Address} → a ≡ x → Valid s a → Valid s x
 valid-as s e v = subst (λ (y : Address). Valid s y) e v
 
-pub placed-as : (s : Settings) {a x : Address} {r : ℕ} → Valid s a → Within s → a ≡ x → r ≡ offset s x → Placed s a r
+pub placed-as : (s : Settings) {a x : Address} {r : ℕ} → Valid s a → Within s → a ≡ x → r ≡ offset s x → AtOffset s a r
 placed-as s {a} {x} v w e p =
     let q : offset s x ≡ offset s a = ap (offset s) (sym e) in
     record { is = p ∙ q; below = omega (arith, offset-below s a v); small = layout-most s w }
 
 -- the same, for a word that lies j behind a start that is known
-pub placed-behind : (s : Settings) {a x : Address} {q p : ℕ} (j : ℕ) → Valid s a → Within s → a ≡ x → q ≡ p → p + j ≡ offset s x → Placed s a (q + j)
+pub placed-behind : (s : Settings) {a x : Address} {q p : ℕ} (j : ℕ) → Valid s a → Within s → a ≡ x → q ≡ p → p + j ≡ offset s x → AtOffset s a (q + j)
 placed-behind s j v w e f g = placed-as s v w e (ap (λ (o : ℕ). o + j) f ∙ g)
 
 -- ---- the primitives on the words of a store
 module _ {s : Settings} {ws : List ℕ} (h : Held s ws) where
   -- the word is in the store
-  pub in-store : {a : Address} {r : ℕ} → Placed s a r → r < length ws
+  pub in-store : {a : Address} {r : ℕ} → AtOffset s a r → r < length ws
   in-store p = omega (arith, held-fits h .long)
 
   pub block-in-store : {n a b : ℕ} → BlockAt s n a → BlockLong s b → a + b ≤ length ws
   block-in-store p l = omega (arith, held-fits h .long)
 
-  -- and so are the head and the index
-  pub index-in-store : dirStart ≤ length ws
-  index-in-store = omega (arith, held-fits h .long, layout-least s)
-
   -- the word at an address's place was read,
-  pub ran-read : {a : Address} {r : ℕ} → Placed s a r → Ran (over s) (get! a) ws (getD ws r 0) ws
+  pub ran-read : {a : Address} {r : ℕ} → AtOffset s a r → Ran (over s) (get! a) ws (getD ws r 0) ws
   unfolding over readWord
   ran-read p = record { value = ap (λ (o : ℕ). getD ws o 0) (sym (p .is)); words = refl; good = h .good }
 
   -- or written,
-  pub ran-write : {a : Address} {r : ℕ} (v : ℕ) → Placed s a r → Ran (over s) (set! a v) ws tt (set ws r v)
+  pub ran-write : {a : Address} {r : ℕ} (v : ℕ) → AtOffset s a r → Ran (over s) (set! a v) ws tt (set ws r v)
   unfolding over writeWord
   ran-write {a} {r} v p = record {
     value = refl;

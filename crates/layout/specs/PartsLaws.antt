@@ -8,7 +8,7 @@ use lib.ListN.{length, getD, take, drop, replicate, length-take, length-drop, le
 use lib.Seq.{getD-take, getD-drop, drop-drop, sets, sets-eq}
 use borrow.Rule.Slice.PartMut.{putMid}
 use Rattle.layout.specs.declared.settings.Settings.{Settings}
-use Rattle.layout.specs.declared.address.Address.the-variants.{Time, Field, Bits, Slot}
+use Rattle.layout.specs.declared.address.Address.the-variants.{Time, Field, Slot}
 use Rattle.layout.specs.Sizes.{levelLen, levelStart, pageLen, dirStart, blockHead, recordLen, blockLen, blockStart, layoutLen, bitsStart}
 use Rattle.layout.specs.SettingsLaws.{block-len}
 use Rattle.layout.specs.AddressLaws.{head-below, slot-below}
@@ -97,11 +97,6 @@ module _ (s : Settings) (ws : List ℕ) where
   unfolding blockWord blockPart readWord
   block-word n j h = part-at ws (blockStart s n) (blockLen s) j (head-below s j (omega arith))
 
-  -- the two words of standing bits,
-  pub block-bits : (n w : ℕ) → w < 2 → blockWord (blockPart s ws n) (bitsStart + w) ≡ readWord s ws (Bits n w)
-  unfolding blockWord blockPart readWord
-  block-bits n w h = part-at ws (blockStart s n) (blockLen s) (bitsStart + w) (head-below s (bitsStart + w) (omega arith))
-
   -- and the records of a block;
   pub slot-word : (n k i : ℕ) → k < s .block → i < recordLen → slotWord (blockPart s ws n) k i ≡ readWord s ws (Slot n k i)
   unfolding slotWord blockPart readWord
@@ -115,19 +110,3 @@ module _ (s : Settings) (ws : List ℕ) where
       part-at (levelPart ws l) (e * pageLen) pageLen i b
       ∙ part-at ws (levelStart l) (levelLen l) (e * pageLen + i) (omega arith)
       ∙ ap (λ (o : ℕ). getD ws o 0) (omega arith)
-
--- ---- the same of a part that was handed out
-module _ {s : Settings} {ws : List ℕ} where
-  pub field-of : {n : ℕ} {r : List ℕ} → BlockPart s ws n r → (j : ℕ) → j < bitsStart → blockWord r j ≡ readWord s ws (Field n j)
-  field-of {n} p j h = rw (p .is) (block-word s ws n j h)
-
-  pub bits-of : {n : ℕ} {r : List ℕ} → BlockPart s ws n r → (w : ℕ) → w < 2 → blockWord r (bitsStart + w) ≡ readWord s ws (Bits n w)
-  bits-of {n} p w h = rw (p .is) (block-bits s ws n w h)
-
-  pub slot-of : {n : ℕ} {r : List ℕ} → BlockPart s ws n r → (k i : ℕ) → k < s .block → i < recordLen → slotWord r k i ≡ readWord s ws (Slot n k i)
-  slot-of {n} p k i h l = rw (p .is) (slot-word s ws n k i h l)
-
--- (An index entry's place does not hang on the settings.)
-pub entry-of : (s : Settings) {ws : List ℕ} {l e : ℕ} {level page : List ℕ} → LevelPart ws l level → PagePart level e page → (i : ℕ)
-    → pageLen * e + pageLen ≤ levelLen l → i < pageLen → getD page i 0 ≡ readWord s ws (Time l (pageLen * e + i))
-entry-of s {ws} {l} {e} p q i h b = rw (q .is, p .is) (page-word s ws l e i h b)

@@ -4,10 +4,9 @@ use mathlib.Core.Bool.{Bool, true, false}
 use mathlib.Core.List.{List, [], _∷_}
 use Prim.Native.Nat.{ℕ}
 use lib.ListN.{length}
-use Rattle.layout.specs.declared.address.Address.{Address}
 use Rattle.layout.specs.Interp.{Interp}
-use Rattle.layout.specs.Program.{Prog, ret, bind, when, each, run, runOn}
-use Rattle.layout.specs.ProgramLaws.{Safe, refine, run-length}
+use Rattle.layout.specs.Program.{Prog, ret, bind, when, each, run}
+use Rattle.layout.specs.ProgramLaws.{run-length}
 
 -- the program p on the words w gave the value x and the words w′, which are a store
 pub record Ran {A : Type 0} (i : Interp) (p : Prog A) (w : List ℕ) (x : A) (w′ : List ℕ) : Type 0 where
@@ -35,10 +34,6 @@ taken e r = rw e (record { value = r .value; words = r .words; good = r .good })
 pub passed : {A : Type 0} {i : Interp} {b : Bool} {p q : Prog A} {w w′ : List ℕ} {x : A}
     → b ≡ false → Ran i q w x w′ → Ran i (when b p q) w x w′
 passed e r = rw e (record { value = r .value; words = r .words; good = r .good })
-
--- where arms meet, the words go by a new name
-pub ran-to : {A : Type 0} {i : Interp} {p : Prog A} {w w₁ w₂ : List ℕ} {x : A} → Ran i p w x w₁ → w₂ ≡ w₁ → Ran i p w x w₂
-ran-to r e = rw e r
 
 pub ran-length : {A : Type 0} {i : Interp} {p : Prog A} {w w′ : List ℕ} {x : A} → Ran i p w x w′ → length w′ ≡ length w
 ran-length {A} {i} {p} {w} r = ap length (sym (r .words)) ∙ run-length i p w
@@ -68,15 +63,6 @@ end {A} l h = record {
 pub likewise : {A : Type 0} {i : Interp} {whole : Prog A} {w₀ w : List ℕ} {p q : Prog A} → p ≡ q → Left i whole w₀ p w → Left i whole w₀ q w
 likewise e l = rw (← e) l
 
--- one of two ways to go on
-pub left-taken : {A : Type 0} {i : Interp} {whole : Prog A} {w₀ w : List ℕ} {b : Bool} {p q : Prog A}
-    → b ≡ true → Left i whole w₀ (when b p q) w → Left i whole w₀ p w
-left-taken {A} {i} {w = w} {p = p} {q = q} e l = record { same = ap (λ (t : Bool). run i (when t p q) w) (sym e) ∙ l .same }
-
-pub left-passed : {A : Type 0} {i : Interp} {whole : Prog A} {w₀ w : List ℕ} {b : Bool} {p q : Prog A}
-    → b ≡ false → Left i whole w₀ (when b p q) w → Left i whole w₀ q w
-left-passed {A} {i} {w = w} {p = p} {q = q} e l = record { same = ap (λ (t : Bool). run i (when t p q) w) (sym e) ∙ l .same }
-
 -- ---- a turn for each number of a list
 pub each-more : {A : Type 0} (body : ℕ → A → Prog A) (l : List ℕ) (k : ℕ) (l′ : List ℕ) (x : A) → l ≡ k ∷ l′
     → each body l x ≡ bind (body k x) (λ y. each body l′ y)
@@ -86,17 +72,3 @@ each-more body l k l′ x e = rw e
 pub each-end : {A : Type 0} (body : ℕ → A → Prog A) (l : List ℕ) (x : A) → l ≡ [] → each body l x ≡ ret x
 unfolding each
 each-end body l x e = rw e
-
--- ---- from a run on the words to the run on the memory that the words are
-pub record OnMemory {A : Type 0} (i : Interp) (p : Prog A) (w : List ℕ) (x : A) (w′ : List ℕ) : Type 0 where
-  pub value : x ≡ (runOn p (i .read w)) .0
-  pub at : (a : Address) → i .May a → i .read w′ a ≡ (runOn p (i .read w)) .1 a
-
-pub on-memory : {A : Type 0} {i : Interp} {p : Prog A} {w w′ : List ℕ} {x : A}
-    → i .Good w → Safe i p (i .read w) → Ran i p w x w′ → OnMemory i p w x w′
-on-memory {A} {i} {p} {w} h k r =
-    let q = refine i p w (i .read w) k (record { good = h; same = record { at = λ a v. refl } }) in
-    record {
-      value = sym (r .value) ∙ q .0;
-      at = λ a v. ap (λ (u : List ℕ). i .read u a) (sym (r .words)) ∙ q .1 .same .at a v;
-    }

@@ -5,6 +5,7 @@ use lib.Dec.{leb}
 use Rattle.layout.specs.declared.settings.Settings.{Settings}
 use Rattle.layout.specs.declared.settings.SettingsAnswer.{SettingsAnswer}
 use Rattle.layout.specs.declared.settings.SettingsAnswer.the-variants.{Fit, Refused}
+use Rattle.layout.specs.RefusalNumbers.{SETTINGS}
 
 -- b, q, B and D as one value
 abbrev pub settingsOf : ℕ → ℕ → ℕ → ℕ → Settings
@@ -22,7 +23,7 @@ inLimits s =
 unfoldable pub settingsAnswer : ℕ → ℕ → ℕ → ℕ → SettingsAnswer
 settingsAnswer block useful blocks tags =
     let s : Settings = settingsOf block useful blocks tags in
-    cond (inLimits s) (Fit s) (Refused 1)
+    cond (inLimits s) (Fit s) (Refused SETTINGS)
 
 -- the limits as facts
 pub record Within (s : Settings) : Type 0 where

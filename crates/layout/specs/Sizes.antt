@@ -1,5 +1,5 @@
--- THE NUMBERS OF WORDS (document 01, "The lent store"). They stand here and in src/sizes.rt and nowhere else in definitions and code; other crates name
--- OPEN, headLen, pageLen, rowLen and layoutLen. (The tables and the test programs have examples with words by number.)
+-- THE NUMBERS OF WORDS (document 01, "The lent store"). They stand here and in src/sizes.rt and nowhere else in definitions and code; other crates'
+-- definitions and code name OPEN, headLen, pageLen, rowLen and layoutLen, timeslice's contracts and the proofs some more. (The tables and the test programs have examples with words by number.)
 use Prim.Native.Nat.{ℕ, zero, suc, _+_, _*_, _-_}
 use Rattle.layout.specs.declared.settings.Settings.{Settings}
 

@@ -5,7 +5,7 @@ use Prim.Native.Nat.{ℕ, _+_, _-_}
 use lib.Dec.{eqb, ltb}
 use lib.Count.{trailingZeros}
 use Rattle.base.specs.Bits.{bitAt, withBit, withoutBit}
-use Rattle.base.specs.Places.{lowerOff}
+use Rattle.base.specs.Ones.{lowerOff}
 use Rattle.base.specs.Slots.{slotsOf}
 use Rattle.layout.specs.declared.standing.Standing.{Standing}
 use Rattle.layout.specs.declared.address.Address.the-variants.{Bits}

@@ -1,4 +1,4 @@
--- Standing bits: the slots in order, one raised, one lowered, the first taken off.
+-- Standing bits: the slots in order, the first taken off, one raised, one lowered.
 use mathlib.Core.Path.{_≡_, refl, sym, _∙_}
 use mathlib.Core.Logic.{_≢_}
 use mathlib.Core.Bool.{Bool, true, false, cond, _&&_}
@@ -8,12 +8,11 @@ use native.Mathlib.Omega.{arith}
 use lib.Dec.{eqb, ltb}
 use lib.ListN.{length, length-append}
 use lib.Bits.{and-le-l}
-use lib.Count.{ones-le}
 use borrow.Author.Tests.{eqb-true, eqb-false, eq-eqb, ne-eqb, lt-ltb, le-ltb}
 use Rattle.base.specs.Branch.{lt?, is?, and-true}
-use Rattle.base.specs.Bits.{bitAt, withBit, withoutBit, bit-two, with-here, with-other, with-below, without-here, without-other, without-below}
-use Rattle.base.specs.Places.{bitsFrom, bits-on, bits-off, next-below, Lists, lists-append, bits-list}
-use Rattle.base.specs.Slots.{slotsOf, slots-count, slots-none, slots-next-low, slots-next-high}
+use Rattle.base.specs.Bits.{bitAt, withBit, withoutBit, bit-two, with-other, without-here, without-other}
+use Rattle.base.specs.Ones.{bitsFrom, bits-off, Lists, lists-append, bits-list}
+use Rattle.base.specs.Slots.{slotsOf, slots-none, slots-next-low, slots-next-high}
 use Rattle.layout.specs.declared.standing.Standing.{Standing}
 use Rattle.layout.specs.Standing.{slots, stands, raised, lowered, firstSlot, otherSlots}
 
@@ -32,10 +31,6 @@ bit-one k x e = eqb-true (bitAt k x) 1 e
 
 pub bit-zero : (k x : ℕ) → eqb (bitAt k x) 1 ≡ false → bitAt k x ≡ 0
 bit-zero k x e = let d = eqb-false (bitAt k x) 1 e in omega (arith, bit-two k x)
-
-with-zero : (k x : ℕ) → eqb (bitAt k x) 1 ≡ false → withBit k x ≡ x + 2 ^ k
-unfolding withBit
-with-zero k x e = rw e
 
 without-one : (k x : ℕ) → eqb (bitAt k x) 1 ≡ true → withoutBit k x ≡ x - 2 ^ k
 unfolding withoutBit
@@ -59,18 +54,6 @@ slots-next b w e = is? (b .low) 0
 
 pub other-fewer : (b : Standing) → TwoWords b → none b ≡ false → length (slots (otherSlots b)) + 1 ≡ length (slots b)
 other-fewer b w e = rw (slots-next b w e) (omega arith)
-
--- how many stand: the ones of both words, at most 64
-pub slots-most : (b : Standing) → TwoWords b → length (slots b) ≤ 64
-slots-most b w = omega (arith, slots-count (b .low) (b .high) (w .low) (w .high), ones-le 32 (b .low) (w .low), ones-le 32 (b .high) (w .high))
-
-pub first-below : (b : Standing) → TwoWords b → none b ≡ false → firstSlot b < 64
-unfolding firstSlot
-first-below b w e = is? (b .low) 0
-    (λ z.
-    let d : b .high ≡ 0 → ⊥ = eqb-false _ _ (rw (eq-eqb _ _ z) at e) in
-    rw (eq-eqb _ _ z) (omega (arith, next-below 32 (b .high) (omega arith) (w .high))))
-    (λ d. rw (ne-eqb _ _ d) (omega (arith, next-below 32 (b .low) (omega arith) (w .low))))
 
 pub other-words : (b : Standing) → TwoWords b → TwoWords (otherSlots b)
 unfolding otherSlots
@@ -101,7 +84,7 @@ slots-list b = lists-append {lo = 0} {mid = 32} {hi = 64} (omega arith) (omega a
     high j = let z : 32 + j - 32 ≡ j = omega arith in high-slot b (32 + j) (omega arith) ∙ rw z
 
 -- ---- one bit of one word changed by f: raised and lowered are two cases
-changed : (ℕ → ℕ → ℕ) → Standing → ℕ → Standing
+unfoldable pub changed : (ℕ → ℕ → ℕ) → Standing → ℕ → Standing
 changed f b k = cond (ltb k 32) (record { low = f k (b .low); high = b .high }) (record { low = b .low; high = f (k - 32) (b .high) })
 
 module _ (f : ℕ → ℕ → ℕ) (b : Standing) (k : ℕ) where
@@ -113,11 +96,7 @@ module _ (f : ℕ → ℕ → ℕ) (b : Standing) (k : ℕ) where
   unfolding changed
   change-high h = simp (le-ltb k 32 h)
 
-  change-here : (v : ℕ) → ((i x : ℕ) → bitAt i (f i x) ≡ v) → stands (changed f b k) k ≡ eqb v 1
-  change-here v g = lt? k 32
-      (λ h. low-slot (changed f b k) k h ∙ rw (change-low h, g))
-      (λ h. high-slot (changed f b k) k h ∙ rw (change-high h, g))
-
+  -- the other slots are as they were
   change-other : ((i j x : ℕ) → j ≢ i → bitAt j (f i x) ≡ bitAt j x) → (j : ℕ) → j ≢ k → stands (changed f b k) j ≡ stands b j
   change-other g j d = lt? k 32
       (λ h. lt? j 32
@@ -127,58 +106,34 @@ module _ (f : ℕ → ℕ → ℕ) (b : Standing) (k : ℕ) where
       (λ l. low-slot (changed f b k) j l ∙ rw (change-high h) (sym (low-slot b j l)))
       (λ l. high-slot (changed f b k) j l ∙ rw (change-high h, g (k - 32) (j - 32) (b .high) (λ e. d (omega arith))) (sym (high-slot b j l))))
 
-  change-words : ((i x : ℕ) → i < 32 → x < 2 ^ 32 → f i x < 2 ^ 32) → k < 64 → TwoWords b → TwoWords (changed f b k)
-  change-words g h w = lt? k 32
-      (λ l. rw (change-low l) record { low = g k (b .low) l (w .low); high = w .high })
-      (λ l. rw (change-high l) record { low = w .low; high = g (k - 32) (b .high) (omega arith) (w .high) })
-
-  -- how many stand, where f takes m places off and puts n on
-  change-length : (v : Bool) (m n : ℕ) → ((i j x : ℕ) → j < 32 → eqb (bitAt j x) 1 ≡ v → length (bitsFrom 32 i (f j x)) + m ≡ length (bitsFrom 32 i x) + n)
-      → k < 64 → stands b k ≡ v → length (slots (changed f b k)) + m ≡ length (slots b) + n
-  unfolding slotsOf
-  change-length v m n g h e = lt? k 32
-      (λ l. rw (change-low l) (simp length-append (omega (arith, g 0 k (b .low) l (sym (low-slot b k l) ∙ e)))))
-      (λ l. rw (change-high l) (simp length-append (omega (arith, g 32 (k - 32) (b .high) (omega arith) (sym (high-slot b k l) ∙ e)))))
-
 module _ (b : Standing) (k : ℕ) where
-  -- ---- a slot raised stands, and the others are as they were
-  raise-is : raised b k ≡ changed withBit b k
+  -- ---- a slot raised, and the others as they were
+  pub raise-is : raised b k ≡ changed withBit b k
   unfolding raised changed
   raise-is = refl
-
-  pub raised-stands : stands (raised b k) k ≡ true
-  raised-stands = rw raise-is (change-here withBit b k 1 with-here)
 
   pub raised-other : (j : ℕ) → j ≢ k → stands (raised b k) j ≡ stands b j
   raised-other j d = rw raise-is (change-other withBit b k with-other j d)
 
-  pub raised-words : k < 64 → TwoWords b → TwoWords (raised b k)
-  raised-words h w = rw raise-is (change-words withBit b k (with-below 32) h w)
-
-  -- one more stands where it did not
-  pub raised-more : k < 64 → stands b k ≡ false → length (slots (raised b k)) ≡ length (slots b) + 1
-  raised-more h e = rw raise-is (omega (arith, change-length withBit b k false 0 1 one h e))
-    where
-      one : (i j x : ℕ) → j < 32 → eqb (bitAt j x) 1 ≡ false → length (bitsFrom 32 i (withBit j x)) + 0 ≡ length (bitsFrom 32 i x) + 1
-      one i j x l z = rw (with-zero j x z) (omega (arith, bits-on 32 i j x l (bit-zero j x z)))
-
   -- ---- a slot lowered stands no more, and the others are as they were
-  lower-is : lowered b k ≡ changed withoutBit b k
+  pub lower-is : lowered b k ≡ changed withoutBit b k
   unfolding lowered changed
   lower-is = refl
 
   pub lowered-stands : stands (lowered b k) k ≡ false
-  lowered-stands = rw lower-is (change-here withoutBit b k 0 without-here)
+  lowered-stands = rw lower-is (lt? k 32
+      (λ h. low-slot (changed withoutBit b k) k h ∙ rw (change-low withoutBit b k h, without-here))
+      (λ h. high-slot (changed withoutBit b k) k h ∙ rw (change-high withoutBit b k h, without-here)))
 
   pub lowered-other : (j : ℕ) → j ≢ k → stands (lowered b k) j ≡ stands b j
   lowered-other j d = rw lower-is (change-other withoutBit b k without-other j d)
 
-  pub lowered-words : k < 64 → TwoWords b → TwoWords (lowered b k)
-  lowered-words h w = rw lower-is (change-words withoutBit b k (λ i x l. without-below 32 i x) h w)
-
   -- one fewer stands where it did
   pub lowered-fewer : k < 64 → stands b k ≡ true → length (slots (lowered b k)) + 1 ≡ length (slots b)
-  lowered-fewer h e = rw lower-is (omega (arith, change-length withoutBit b k true 1 0 one h e))
+  unfolding slotsOf
+  lowered-fewer h e = rw lower-is (lt? k 32
+      (λ l. rw (change-low withoutBit b k l) (simp length-append (omega (arith, one 0 k (b .low) l (sym (low-slot b k l) ∙ e)))))
+      (λ l. rw (change-high withoutBit b k l) (simp length-append (omega (arith, one 32 (k - 32) (b .high) (omega arith) (sym (high-slot b k l) ∙ e))))))
     where
-      one : (i j x : ℕ) → j < 32 → eqb (bitAt j x) 1 ≡ true → length (bitsFrom 32 i (withoutBit j x)) + 1 ≡ length (bitsFrom 32 i x) + 0
+      one : (i j x : ℕ) → j < 32 → eqb (bitAt j x) 1 ≡ true → length (bitsFrom 32 i (withoutBit j x)) + 1 ≡ length (bitsFrom 32 i x)
       one i j x l z = rw (without-one j x z) (omega (arith, bits-off 32 i j x l (bit-one j x z)))

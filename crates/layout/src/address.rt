@@ -11,7 +11,7 @@ ghost use Rattle.layout.specs.Settings.{Within};
 ghost use Rattle.layout.specs.Ran.{Ran};
 ghost use Rattle.layout.specs.OnWords.{over, Held};
 ghost use Rattle.layout.specs.Standing.{blockBits};
-ghost use Rattle.layout.specs.OffsetLaws.{LevelAt, BlockAt, Placed};
+ghost use Rattle.layout.specs.OffsetLaws.{LevelAt, BlockAt, AtOffset};
 
 pub enum Address {
     // a word of the head
@@ -56,7 +56,7 @@ pub(crate) fn block_start(s: Settings, n: u32) -> usize
 fn offset_of(s: Settings, a: Address) -> usize
     requires { ⌜ Valid s a ⌝ }
     requires { ⌜ Within s ⌝ }
-    ensures { λ r. ⌜ Placed s a r ⌝ }
+    ensures { λ r. ⌜ AtOffset s a r ⌝ }
 {
     match a {
         Address::Head(j) => j,

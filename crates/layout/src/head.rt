@@ -12,7 +12,7 @@ ghost use Prim.Native.Nat.{_≤_, _<_};
 ghost use lib.ListN.{length};
 ghost use Rattle.layout.specs.Sizes.{headLen, layoutLen};
 ghost use Rattle.layout.specs.Settings.{Within};
-ghost use Rattle.layout.specs.Head.{fresh, onward, headOf, withHead, cleared, fillFits, spareZero, badHead, headRefusal, headAnswer, placed};
+ghost use Rattle.layout.specs.Head.{freshHead, onward, headOf, withHead, cleared, fillFits, spareZero, badHead, headRefusal, headAnswer, placed};
 ghost use Rattle.layout.specs.HeadLaws.{SoundHead};
 ghost use Rattle.layout.specs.Cursor.{at, filled, grown, relinked, storeCursor};
 ghost use Rattle.layout.specs.Ran.{Ran};
@@ -46,7 +46,7 @@ pub enum HeadAnswer {
 impl Head {
     // The head that a start leaves: no block is opened, and the clock is 0.
     pub fn fresh(settings: Settings) -> Head
-        ensures { λ r. ⌜ r ≡ fresh settings ⌝ }
+        ensures { λ r. ⌜ r ≡ freshHead settings ⌝ }
     {
         let cursor = Cursor {
             opened: 0,

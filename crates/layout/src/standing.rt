@@ -4,7 +4,7 @@ ghost use Prim.Native.Nat.{_^_, _<_};
 ghost use lib.Dec.{eqb};
 ghost use lib.ListN.{length};
 ghost use Rattle.base.specs.Bits.{bitAt, withBit, withoutBit};
-ghost use Rattle.base.specs.Places.{lowerOff};
+ghost use Rattle.base.specs.Ones.{lowerOff};
 ghost use Rattle.layout.specs.Standing.{slots, stands, raised, lowered, firstSlot, otherSlots};
 ghost use Rattle.layout.specs.StandingLaws.{none};
 
@@ -36,10 +36,7 @@ pub fn bit_on(x: u32, k: u32) -> u32
     requires { ⌜ k < 32 ⌝ }
     ensures { λ r. ⌜ r ≡ withBit k x ⌝ }
 {
-    if bit(x, k) {
-        return x;
-    }
-    x + weight(k)
+    x | weight(k)
 }
 
 // A word of standing bits with bit k made 0.
@@ -47,10 +44,7 @@ pub fn bit_off(x: u32, k: u32) -> u32
     requires { ⌜ k < 32 ⌝ }
     ensures { λ r. ⌜ r ≡ withoutBit k x ⌝ }
 {
-    if bit(x, k) {
-        return x - weight(k);
-    }
-    x
+    x - (x & weight(k))
 }
 
 // A word without its lowest one; 0 stays 0.

@@ -1,23 +1,31 @@
 -- What a program that may run on the words tells of the blocks, slots and tags that it meets.
-use mathlib.Core.Path.{_≡_, refl, sym, ap, subst}
+use mathlib.Core.Path.{_≡_, refl, sym, ap, _∙_, subst}
 use mathlib.Core.Logic.{_≢_}
+use mathlib.Core.Bool.{Bool, true}
 use mathlib.Core.List.{List}
-use Prim.Native.Nat.{ℕ, _+_, _≤_, _<_}
-use borrow.Author.Tests.{ne-eqb}
+use Prim.Native.Nat.{ℕ, _+_, _/_, _≤_, _<_}
+use native.Mathlib.Omega.{arith}
+use lib.Dec.{ltb}
+use lib.ListN.{length}
+use borrow.Author.Tests.{ne-eqb, ltb-true}
 use Rattle.layout.specs.declared.settings.Settings.{Settings}
 use Rattle.layout.specs.declared.head.Cursor.{Cursor}
+use Rattle.layout.specs.declared.head.Head.{Head}
 use Rattle.layout.specs.declared.address.Address.{Address}
 use Rattle.layout.specs.declared.address.Address.the-variants.{Dir, Field, Bits, Slot}
 use Rattle.layout.specs.declared.standing.Standing.{Standing}
+use Rattle.layout.specs.Sizes.{recordLen, bitsStart}
 use Rattle.layout.specs.Fields.{upWord, rightWord, childWord, closedWord, tagWord, toWord}
 use Rattle.layout.specs.Address.{Valid, Numbered}
+use Rattle.layout.specs.Settings.{Within}
 use Rattle.layout.specs.Spot.{Spot}
 use Rattle.layout.specs.Standing.{slots, blockBits}
-use Rattle.layout.specs.Program.{Prog, bind, get!, set!, run}
+use Rattle.layout.specs.Program.{Prog, bind, when, get!, set!, run}
 use Rattle.layout.specs.ProgramLaws.{refine}
 use Rattle.layout.specs.Ran.{Ran}
+use Rattle.layout.specs.Moved.{Moved, after, if-taken}
 use Rattle.layout.specs.OnWords.{over, Held}
-use Rattle.layout.specs.Able.{Able, able-held, able-first, able-next, able-passed, able-get, able-set, able-wipe}
+use Rattle.layout.specs.Able.{Able, able-held, able-first, able-next, able-taken, able-passed, able-get, able-set, able-wipe}
 use Rattle.calls.specs.Placing.{openBlock, unlink, endRecord, standing, putRecord}
 use Rattle.placing.specs.Steps.{Listed}
 
@@ -49,9 +57,33 @@ pub ran-standing : {A : Type 0} {s : Settings} (n : ℕ) {k : List ℕ → Prog 
 unfolding standing
 ran-standing n x e = record { value = ap slots (sym e); words = refl; good = x .agree .good }
 
--- the store that a run left
+-- with fewer than q of them the first of two ways is gone: a program that judges
+abbrev judges : Settings → ℕ → (List ℕ → Prog Cursor) → Prog Cursor → Prog Cursor
+judges s n p q = bind (standing n) (λ l. when (ltb (length l) (s .useful)) (p l) q)
+
+pub able-few : {s : Settings} (n : ℕ) {p : List ℕ → Prog Cursor} {q : Prog Cursor} {b : Standing} {t : Bool} {ws : List ℕ} → Able s (judges s n p q) ws
+    → b ≡ blockBits (over s .read ws) n → t ≡ ltb (length (slots b)) (s .useful) → t ≡ true → Able s (p (slots b)) ws
+able-few n a e few so = able-taken (sym few ∙ so) (able-next a (ran-standing n a e))
+
+pub if-few : {h r : Head} (n : ℕ) {p : List ℕ → Prog Cursor} {q : Prog Cursor} {b : Standing} {t : Bool} {ws ws′ : List ℕ}
+    → Able (h .settings) (judges (h .settings) n p q) ws → b ≡ blockBits (over (h .settings) .read ws) n
+    → t ≡ ltb (length (slots b)) (h .settings .useful) → t ≡ true → Moved h (p (slots b)) ws r ws′ → Moved h (judges (h .settings) n p q) ws r ws′
+if-few n a e few so m = after (ran-standing n a e) (if-taken (sym few ∙ so) m)
+
+-- ---- the store that a run left, and what may be read or written of it: a word of a slot, the word with its bit, a word of a block's head
 pub held-after : {A B : Type 0} {s : Settings} {p : Prog A} {q : Prog B} {us ws ws′ : List ℕ} {x : B} → Able s p us → Ran (over s) q ws x ws′ → Held s ws′
 held-after a r = record { good = r .good; within = a .within }
+
+module _ {s : Settings} {n k : ℕ} (p : Spot s n k) {A : Type 0} {q : Prog A} {ws ws′ : List ℕ} {x : A} (r : Ran (over s) q ws x ws′) where
+  pub slot-after : (i : ℕ) → ltb i recordLen ≡ true → Valid s (Slot n k i) × Held s ws′
+  slot-after i e = ((p .block, p .slot, ltb-true i recordLen e), record { good = r .good; within = p .within })
+
+  pub bits-after : Valid s (Bits n (k / 32)) × Held s ws′
+  bits-after = ((p .block, omega (arith, p .slot, p .within)), record { good = r .good; within = p .within })
+
+pub field-after : {A : Type 0} {s : Settings} {n : ℕ} {q : Prog A} {ws ws′ : List ℕ} {x : A} → Within s → Numbered s n → Ran (over s) q ws x ws′
+    → (j : ℕ) → ltb j bitsStart ≡ true → Valid s (Field n j) × Held s ws′
+field-after w v r j e = ((v, ltb-true j bitsStart e), record { good = r .good; within = w })
 
 -- ---- slots
 pub end-spot : {s : Settings} {ws : List ℕ} (n k now : ℕ) → Able s (endRecord n k now) ws → Spot s n k
@@ -63,17 +95,30 @@ module _ {s : Settings} {ws : List ℕ} (c : Cursor) (now tag reading : ℕ) (a 
   unfolding putRecord
   put-spot = let v = able-set (Slot (c .opened) (c .fill) tagWord) (able-first a) in record { within = a .within; block = v .0; slot = v .1 }
 
+  pub put-fill : c .fill < 64
+  put-fill = omega (arith, put-spot .slot, put-spot .within)
+
   pub put-tag : tag < s .tags
   unfolding putRecord
   put-tag = able-set (Dir tag) (able-first (able-rest (able-rest (able-rest (able-rest (able-rest (able-rest a)))))))
 
 -- ---- blocks
-pub next-block : {s : Settings} {ws : List ℕ} (c : Cursor) (now : ℕ) → Able s (openBlock c now) ws → Numbered s (c .opened + 1)
-unfolding openBlock
-next-block c now a = able-wipe (able-first (able-rest a))
+module _ {s : Settings} {ws : List ℕ} (c : Cursor) (now : ℕ) (a : Able s (openBlock c now) ws) where
+  -- block N + 1 is one of the store's, and so is block N, if any
+  pub next-block : Numbered s (c .opened + 1)
+  unfolding openBlock
+  next-block = able-wipe (able-first (able-rest a))
+
+  pub last-block : c .opened ≢ 0 → Numbered s (c .opened)
+  last-block d = record { low = omega arith; high = omega (arith, next-block) }
+
+  -- so there are few
+  pub few-opened : c .opened < 4096
+  few-opened = omega (arith, next-block, a .within)
 
 -- the blocks that block x is unlinked from: its up, P (unless it is 0), and its right neighbour
 pub record Links (s : Settings) (x up right : ℕ) : Type 0 where
+  pub within : Within s
   pub closes : Numbered s x
   pub above : up ≢ 0 → Numbered s up
   pub beside : Numbered s right
@@ -85,6 +130,7 @@ unlink-links c x now {up} {right} a u r =
     let b = able-next (able-next a u) r in
     let d = able-rest b in
     record {
+      within = a .within;
       closes = (able-set (Field x closedWord) (able-first b)) .0;
       above = λ h. (able-get (Field up childWord) (able-first (able-passed (ne-eqb up 0 h) (able-rest d)))) .0;
       beside = (able-set (Field right upWord) (able-first d)) .0;

@@ -12,7 +12,7 @@ ghost use Rattle.layout.specs.Moved.{Moved};
 ghost use Rattle.layout.specs.Able.{Able};
 ghost use Rattle.layout.specs.Program.{each};
 ghost use Rattle.layout.specs.Standing.{slots};
-ghost use Rattle.calls.specs.Placing.{moveRecord, closeFull, judgeFull, roll, makeRoom, place, replace, close, judge};
+ghost use Rattle.calls.specs.Placing.{moveRecord, judgeFull, roll, makeRoom, place, replace, judge};
 
 // The records of these slots of block x move, in slot order, to an acceptor that has room for all of them.
 fn move_all(store: &mut [u32], h: Head, x: u32, second: u32, bits: Standing) -> Head
@@ -29,15 +29,6 @@ fn move_all(store: &mut [u32], h: Head, x: u32, second: u32, bits: Standing) -> 
     head
 }
 
-// The old acceptor x closes, and its copies go into the new block.
-fn close_full(store: &mut [u32], h: Head, x: u32, second: u32, bits: Standing) -> Head
-    requires { ⌜ Able (h .settings) (closeFull (h .settings) (h .cursor) x second (slots bits)) (now store) ⌝ }
-    ensures { λ r. ⌜ Moved h (closeFull (h .settings) (h .cursor) x second (slots bits)) (now (store .entry)) r (now (store .exit)) ⌝ }
-{
-    let unlinked = blocks::unlink(store, h, x, second);
-    move_all(store, unlinked, x, second, bits)
-}
-
 // Judged: with fewer than q standing, a block closes. How many stand is the number of ones in its two words.
 fn too_few(s: Settings, bits: Standing) -> bool
     ensures { λ r. ⌜ r ≡ ltb (length (slots bits)) (s .useful) ⌝ }
@@ -45,7 +36,7 @@ fn too_few(s: Settings, bits: Standing) -> bool
     bits.count() < s.useful
 }
 
-// The old acceptor x is judged. Its copies are fewer than q, so the new block has room for them.
+// The old acceptor x is judged: with fewer than q standing it closes, and its copies go into the new block, which has room for them.
 fn judge_full(store: &mut [u32], h: Head, x: u32, second: u32) -> Head
     requires { ⌜ Able (h .settings) (judgeFull (h .settings) (h .cursor) x second) (now store) ⌝ }
     ensures { λ r. ⌜ Moved h (judgeFull (h .settings) (h .cursor) x second) (now (store .entry)) r (now (store .exit)) ⌝ }
@@ -53,7 +44,8 @@ fn judge_full(store: &mut [u32], h: Head, x: u32, second: u32) -> Head
     let s = h.settings;
     let bits = address::standing(store, s, x);
     if too_few(s, bits) {
-        return close_full(store, h, x, second, bits);
+        let unlinked = blocks::unlink(store, h, x, second);
+        return move_all(store, unlinked, x, second, bits);
     }
     h
 }
@@ -118,16 +110,7 @@ fn replace_all(store: &mut [u32], h: Head, x: u32, second: u32, bits: Standing) 
     head
 }
 
-// Block x, which is not the acceptor, closes, and its standing records are placed again.
-fn close(store: &mut [u32], h: Head, x: u32, second: u32, bits: Standing) -> Head
-    requires { ⌜ Able (h .settings) (close (h .settings) (h .cursor) x second (slots bits)) (now store) ⌝ }
-    ensures { λ r. ⌜ Moved h (close (h .settings) (h .cursor) x second (slots bits)) (now (store .entry)) r (now (store .exit)) ⌝ }
-{
-    let unlinked = blocks::unlink(store, h, x, second);
-    replace_all(store, unlinked, x, second, bits)
-}
-
-// Block x, which is not the acceptor, is judged.
+// Block x, which is not the acceptor, is judged: with fewer than q standing it closes, and its standing records are placed again.
 pub(crate) fn judge(store: &mut [u32], h: Head, x: u32, second: u32) -> Head
     requires { ⌜ Able (h .settings) (judge (h .settings) (h .cursor) x second) (now store) ⌝ }
     ensures { λ r. ⌜ Moved h (judge (h .settings) (h .cursor) x second) (now (store .entry)) r (now (store .exit)) ⌝ }
@@ -135,7 +118,8 @@ pub(crate) fn judge(store: &mut [u32], h: Head, x: u32, second: u32) -> Head
     let s = h.settings;
     let bits = address::standing(store, s, x);
     if too_few(s, bits) {
-        return close(store, h, x, second, bits);
+        let unlinked = blocks::unlink(store, h, x, second);
+        return replace_all(store, unlinked, x, second, bits);
     }
     h
 }

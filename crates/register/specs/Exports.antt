@@ -11,8 +11,8 @@ use Rattle.calls.specs.Calls.{Ask, LookBack, Answer, Done, Shown, Refused, Repl
 use Rattle.calls.specs.Step.{step}
 use Rattle.timeslice.specs.declared.Slice.{Slice}
 use Rattle.timeslice.specs.Answer.{sliceOf}
-use Rattle.applying.specs.declared.journal.Tally.{Tally}
-use Rattle.applying.specs.Journal.{Replayed}
+use Rattle.register.specs.declared.journal.Tally.{Tally}
+use Rattle.register.specs.Journal.{Replayed}
 
 abbrev pub numberOf : Answer → ℕ
 numberOf (Done h) = 0

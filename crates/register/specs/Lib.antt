@@ -1,2 +1,5 @@
 pub mod Exports
 pub mod ExportLaws
+pub mod Journal
+pub mod JournalLaws
+pub mod Rebuilt

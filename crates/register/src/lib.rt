@@ -1,14 +1,16 @@
 // THE REGISTER, the public face: any call as one value (apply), a store rebuilt from a journal (replay), and for callers in C and Rust the six
 // calls, each proved equal to its definition (calls.specs.Step), the replay, and how many words a store takes.
+mod journal;
+
 pub use applying::Answer;
 pub use applying::Call;
-pub use applying::Tally;
 pub use applying::apply;
-pub use applying::replay;
 use changes::Change;
+pub use journal::Tally;
+pub use journal::replay;
 use layout::settings::Settings;
-use timeslice::Looked;
 use timeslice::Slice;
+use timeslice::SliceAnswer;
 ghost use mathlib.Core.Path.{_≡_};
 ghost use lib.Seq.{sets};
 ghost use Rattle.layout.specs.Settings.{settingsOf};
@@ -16,7 +18,7 @@ ghost use Rattle.calls.specs.Calls.{Start, Set, Clear, Update, Advance};
 ghost use Rattle.calls.specs.Step.{step};
 ghost use Rattle.changes.specs.Replied.{answerOf};
 ghost use Rattle.register.specs.Exports.{numberOf, sixWords, Exported, ExportedLookBack, wordsFor, ExportedReplay};
-ghost use Rattle.applying.specs.Rebuilt.{Rebuilt};
+ghost use Rattle.register.specs.Rebuilt.{Rebuilt};
 
 // 0 for an accepted call, else the refusal's number.
 fn number(c: Change) -> u32
@@ -98,8 +100,8 @@ pub extern "C" fn register_look_back(
 {
     let looked = timeslice::look_back(store, second, rows, list);
     match looked {
-        Looked::Refused(n) => n,
-        Looked::Answered(slice) => {
+        SliceAnswer::Refused(n) => n,
+        SliceAnswer::Answered(slice) => {
             put_six(answer, slice);
             0
         }
@@ -124,7 +126,7 @@ pub extern "C" fn register_replay(store: &mut [u32], journal: &[u32], answer: &m
     ensures { λ _. ⌜ ExportedReplay (now (store .entry)) (now (journal .entry)) (now (answer .entry)) (now (store .exit)) (now (answer .exit)) ⌝ }
     ensures { λ _. ⌜ Rebuilt (now (store .entry)) (now (journal .entry)) (now (store .exit)) ⌝ }
 {
-    let tally = applying::replay(store, journal);
+    let tally = replay(store, journal);
     answer[0] = tally.entries as u64;
     answer[1] = tally.accepted as u64;
 }

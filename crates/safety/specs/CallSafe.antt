@@ -24,7 +24,7 @@ use Rattle.layout.specs.Able.{Able}
 use Rattle.calls.specs.Placing.{clearTag, finish, setProgram, clearProgram, updateProgram, advanceProgram}
 use Rattle.calls.specs.Refusals.{tagBlock, copies, unsoundSet, unsoundClear, blocksOut}
 use Rattle.safety.specs.Goes.{Goes, goes-on}
-use Rattle.safety.specs.Room.{Ready, place-goes}
+use Rattle.safety.specs.Room.{RoomFor, place-goes}
 use Rattle.safety.specs.Leaving.{clear-goes}
 use Rattle.safety.specs.TestLaws.{set-ready, clearable}
 
@@ -48,7 +48,7 @@ next-head z ends i = record {
 }
 
 -- with no record to come the cursor is stored
-finish-goes : (s : Settings) (now : ℕ) (c : Cursor) (f : Memory) → Ready s f 0 (c .opened) (c .fill) → Goes s (finish s now c) f (λ d g. Next s now d)
+finish-goes : (s : Settings) (now : ℕ) (c : Cursor) (f : Memory) → RoomFor s f 0 (c .opened) (c .fill) → Goes s (finish s now c) f (λ d g. Next s now d)
 unfolding finish storeCursor
 finish-goes s now c f i = record {
   safe = (((lit≤ tt, tt), ((lit≤ tt, tt), ((lit≤ tt, tt), ((lit≤ tt, tt), (lit≤ tt, tt))))), tt);
@@ -81,7 +81,7 @@ module _ {h : Head} (sound : SoundHead h) (f : Memory) (now : ℕ) where
     -- ---- a tag is cleared, `more` records to come after it
     module _ (d : f (Dir tag) ≢ 0) where
       cleared-goes : (more : ℕ) → more ≤ 1 → unsoundClear h f more tag ≡ false → blocksOut h (copies h f (tagBlock h f tag) + more) ≡ false
-          → Goes (h .settings) (clearTag (h .settings) (h .cursor) now tag) f (λ d g. Ready (h .settings) g more (d .opened) (d .fill))
+          → Goes (h .settings) (clearTag (h .settings) (h .cursor) now tag) f (λ d g. RoomFor (h .settings) g more (d .opened) (d .fill))
       cleared-goes more one bad out =
           clear-goes (h .settings) (sound .within) (h .cursor) f now tag known (sound .opened) (clearable h sound f tag d more bad one out)
 

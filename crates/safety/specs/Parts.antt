@@ -1,5 +1,5 @@
 -- The parts of a change go well where their blocks, slots and tags are the layout's, and what each leaves: a record ended (Ended), one placed in the
--- acceptor (Placed), a block out of the row of open blocks (Unlinked), a new block (Grown). Of the words only up, right, bits and tags matter here.
+-- acceptor (RecordPut), a block out of the row of open blocks (Unlinked), a new block (Grown). Of the words only up, right, bits and tags matter here.
 use mathlib.Core.Path.{_≡_, refl, ap, _∙_}
 use mathlib.Core.Logic.{_≢_}
 use mathlib.Core.Bool.{cond}
@@ -20,34 +20,34 @@ use Rattle.layout.specs.Settings.{Within}
 use Rattle.layout.specs.Address.{Numbered}
 use Rattle.layout.specs.Memory.{Memory}
 use Rattle.layout.specs.Program.{Prog, bind, set! }
-use Rattle.layout.specs.Standing.{slots, raised, lowered}
+use Rattle.layout.specs.Standing.{slots, raised, lowered, blockBits}
 use Rattle.calls.specs.Placing.{enterTime, openBlock, unlink, endRecord, standing, putRecord, moveRecord}
 use Rattle.safety.specs.Goes.{Goes, goes-get, goes-set, goes-wipe, goes-ret, goes-on, goes-when, goes-so}
-use Rattle.safety.specs.Sound.{bitsIn, bit-raised, bit-lowered, bit-elsewhere, and-none, Movable}
+use Rattle.safety.specs.Sound.{bit-raised, bit-lowered, bit-elsewhere, and-none, Movable}
 
 -- ---- a record ends
 pub record Ended (f : Memory) (n k : ℕ) (g : Memory) : Type 0 where
   pub tags : (m j : ℕ) → g (Slot m j tagWord) ≡ f (Slot m j tagWord)
   pub fields : (m j : ℕ) → g (Field m j) ≡ f (Field m j)
-  pub here : bitsIn g n ≡ lowered (bitsIn f n) k
-  pub elsewhere : (m : ℕ) → m ≢ n → bitsIn g m ≡ bitsIn f m
+  pub here : blockBits g n ≡ lowered (blockBits f n) k
+  pub elsewhere : (m : ℕ) → m ≢ n → blockBits g m ≡ blockBits f m
 
 -- ---- a record with this tag goes to the acceptor's next slot
-pub record Placed (f : Memory) (c : Cursor) (tag : ℕ) (d : Cursor) (g : Memory) : Type 0 where
+pub record RecordPut (f : Memory) (c : Cursor) (tag : ℕ) (d : Cursor) (g : Memory) : Type 0 where
   pub opened : d .opened ≡ c .opened
   pub fill : d .fill ≡ c .fill + 1
   pub here : g (Slot (c .opened) (c .fill) tagWord) ≡ tag
   pub slots : (k : ℕ) → k ≢ c .fill → g (Slot (c .opened) k tagWord) ≡ f (Slot (c .opened) k tagWord)
   pub tags : (n k : ℕ) → n ≢ c .opened → g (Slot n k tagWord) ≡ f (Slot n k tagWord)
   pub ups : (n : ℕ) → g (Field n upWord) ≡ f (Field n upWord)
-  pub bits : bitsIn g (c .opened) ≡ raised (bitsIn f (c .opened)) (c .fill)
+  pub bits : blockBits g (c .opened) ≡ raised (blockBits f (c .opened)) (c .fill)
 
 -- ---- a block leaves the row: its right neighbour's up becomes its up
 pub record Unlinked (f : Memory) (c : Cursor) (x : ℕ) (d : Cursor) (g : Memory) : Type 0 where
   pub opened : d .opened ≡ c .opened
   pub fill : d .fill ≡ c .fill
   pub tags : (n k : ℕ) → g (Slot n k tagWord) ≡ f (Slot n k tagWord)
-  pub bits : (n : ℕ) → bitsIn g n ≡ bitsIn f n
+  pub bits : (n : ℕ) → blockBits g n ≡ blockBits f n
   pub ups : (n : ℕ) → g (Field n upWord) ≡ cond (eqb (f (Field x rightWord)) n) (f (Field x upWord)) (f (Field n upWord))
 
 -- ---- block N + 1 opens, empty, right of block N
@@ -55,12 +55,12 @@ pub record Grown (f : Memory) (c d : Cursor) (g : Memory) : Type 0 where
   pub opened : d .opened ≡ c .opened + 1
   pub fill : d .fill ≡ 0
   pub tags : (n k : ℕ) → n ≢ c .opened + 1 → g (Slot n k tagWord) ≡ f (Slot n k tagWord)
-  pub bits : (n : ℕ) → n ≢ c .opened + 1 → bitsIn g n ≡ bitsIn f n
+  pub bits : (n : ℕ) → n ≢ c .opened + 1 → blockBits g n ≡ blockBits f n
   pub ups : (n : ℕ) → n ≢ c .opened + 1 → g (Field n upWord) ≡ f (Field n upWord)
   pub right : 1 ≤ c .opened → g (Field (c .opened) rightWord) ≡ c .opened + 1
 
 -- the times are written, and no word of a block
-record Entered (f g : Memory) : Type 0 where
+record BlocksKept (f g : Memory) : Type 0 where
   fields : (n j : ℕ) → g (Field n j) ≡ f (Field n j)
   bits : (n w : ℕ) → g (Bits n w) ≡ f (Bits n w)
   tags : (n k : ℕ) → g (Slot n k tagWord) ≡ f (Slot n k tagWord)
@@ -81,7 +81,7 @@ module _ (s : Settings) (z : Within s) where
       }))
 
   pub put-goes : (c : Cursor) (f : Memory) (now tag reading : ℕ) → Numbered s (c .opened) → c .fill < s .block → tag < s .tags
-      → Goes s (putRecord s c now tag reading) f (Placed f c tag)
+      → Goes s (putRecord s c now tag reading) f (RecordPut f c tag)
   unfolding putRecord
   put-goes c f now tag reading nn room known =
       let word : c .fill / 32 < 2 = omega (arith, z .most) in
@@ -98,7 +98,7 @@ module _ (s : Settings) (z : Within s) where
 
   -- a record of an older block is placed again
   pub move-goes : (c : Cursor) (f : Memory) (x now k : ℕ) → Numbered s x → Movable s f x k → x ≢ c .opened → Numbered s (c .opened) → c .fill < s .block
-      → Goes s (moveRecord s x now k c) f (Placed f c (f (Slot x k tagWord)))
+      → Goes s (moveRecord s x now k c) f (RecordPut f c (f (Slot x k tagWord)))
   unfolding moveRecord
   move-goes c f x now k nx m apart nn room =
       goes-get (nx, m .slot, lit≤ tt) (goes-get (nx, m .slot, lit≤ tt) (goes-on (end-goes x k now f nx (m .slot)) (λ u g e.
@@ -113,7 +113,7 @@ module _ (s : Settings) (z : Within s) where
       }))))
 
   -- the standing slots of a block are read, then the rest
-  pub goes-standing : {A : Type 0} {k : List ℕ → Prog A} {f : Memory} {R : A → Memory → Type 0} (x : ℕ) → Numbered s x → Goes s (k (slots (bitsIn f x))) f R
+  pub goes-standing : {A : Type 0} {k : List ℕ → Prog A} {f : Memory} {R : A → Memory → Type 0} (x : ℕ) → Numbered s x → Goes s (k (slots (blockBits f x))) f R
       → Goes s (bind (standing x) k) f R
   unfolding standing
   goes-standing x nx g = record { safe = ((((nx, lit≤ tt), tt), (((nx, lit≤ tt), tt), tt)), g .safe); leaves = g .leaves }
@@ -130,13 +130,13 @@ module _ (s : Settings) (z : Within s) where
       goes-get (nu, lit≤ tt) (goes-set (nu, lit≤ tt) (goes-set (nx, lit≤ tt) (goes-set (nu, lit≤ tt)
       (goes-ret (record { opened = refl; fill = refl; tags = λ n k. refl; bits = λ n. refl; ups = λ n. refl }))))))))))
 
-  time-goes : {f : Memory} (l i now : ℕ) (g : Memory) → l < 3 → i < levelLen l → Entered f g → Goes s (set! (Time l i) now) g (λ x h. Entered f h)
+  time-goes : {f : Memory} (l i now : ℕ) (g : Memory) → l < 3 → i < levelLen l → BlocksKept f g → Goes s (set! (Time l i) now) g (λ x h. BlocksKept f h)
   time-goes l i now g a b e = record { safe = ((a, b), tt); leaves = record { fields = e .fields; bits = e .bits; tags = e .tags } }
 
-  enter-goes : (i now : ℕ) (f : Memory) → i < 4096 → Goes s (enterTime i now) f (λ x g. Entered f g)
+  enter-goes : (i now : ℕ) (f : Memory) → i < 4096 → Goes s (enterTime i now) f (λ x g. BlocksKept f g)
   unfolding enterTime
   enter-goes i now f a =
-      let first : Entered f f = record { fields = λ n j. refl; bits = λ n w. refl; tags = λ n k. refl } in
+      let first : BlocksKept f f = record { fields = λ n j. refl; bits = λ n w. refl; tags = λ n k. refl } in
       let b : i / 16 < 256 = omega arith in
       let d : i / 256 < 16 = omega arith in
       goes-on (time-goes 0 i now f (lit≤ tt) a first) (λ x g e.

@@ -1,4 +1,4 @@
--- Room for records: where m more are to come (Ready), the acceptor takes the next one, or block N + 1 opens and block N, if it then closes, is sound. At most
+-- Room for records: where m more are to come (RoomFor), the acceptor takes the next one, or block N + 1 opens and block N, if it then closes, is sound. At most
 -- one block opens: the new one has room for block N's copies, fewer than q, and for the m ≤ q records.
 use mathlib.Core.Path.{_≡_, refl, ap, sym, _∙_, subst}
 use mathlib.Core.Logic.{_≢_}
@@ -19,16 +19,16 @@ use Rattle.layout.specs.Fields.{upWord, rightWord, tagWord}
 use Rattle.layout.specs.Settings.{Within}
 use Rattle.layout.specs.Address.{Numbered}
 use Rattle.layout.specs.Memory.{Memory}
-use Rattle.layout.specs.Standing.{slots, stands}
+use Rattle.layout.specs.Standing.{slots, stands, blockBits}
 use Rattle.layout.specs.StandingLaws.{raised-other}
 use Rattle.calls.specs.Placing.{moveRecord, closeFull, judgeFull, roll, makeRoom, place}
 use Rattle.calls.specs.Refusals.{takenUp}
 use Rattle.safety.specs.Goes.{Goes, goes-ret, goes-on, goes-when, goes-each, goes-so}
-use Rattle.safety.specs.Sound.{bitsIn, Movable, Sound, sound-slots, sound-in, all-first, all-others}
-use Rattle.safety.specs.Parts.{Placed, put-goes, move-goes, goes-standing, unlink-goes, open-goes}
+use Rattle.safety.specs.Sound.{Movable, Sound, sound-slots, sound-in, all-first, all-others}
+use Rattle.safety.specs.Parts.{RecordPut, put-goes, move-goes, goes-standing, unlink-goes, open-goes}
 
 -- ---- m more records are to come, with n blocks opened and fill records in the last
-pub record Ready (s : Settings) (f : Memory) (m n fill : ℕ) : Type 0 where
+pub record RoomFor (s : Settings) (f : Memory) (m n fill : ℕ) : Type 0 where
   -- no sum wraps: the cursor's bounds along the way
   pub limit : n ≤ s .blocks
   pub fits : fill ≤ s .block
@@ -37,7 +37,7 @@ pub record Ready (s : Settings) (f : Memory) (m n fill : ℕ) : Type 0 where
   pub few : m ≤ s .useful
   -- if they have no room, a block is left, and the acceptor is sound if it closes once its free slots are taken
   pub left : s .block < fill + m → n < s .blocks
-  pub sound : s .block < fill + m → 1 ≤ n → length (slots (takenUp (bitsIn f n) fill (s .block - fill))) < s .useful → Sound s f n
+  pub sound : s .block < fill + m → 1 ≤ n → length (slots (takenUp (blockBits f n) fill (s .block - fill))) < s .useful → Sound s f n
 
 -- ---- block y has opened, and took the copies of the block before it
 record Rolled (s : Settings) (f : Memory) (y : ℕ) (d : Cursor) (g : Memory) : Type 0 where
@@ -47,7 +47,7 @@ record Rolled (s : Settings) (f : Memory) (y : ℕ) (d : Cursor) (g : Memory) : 
 
 -- the acceptor has room for the next of m records
 pub record Room (s : Settings) (f : Memory) (m : ℕ) (c d : Cursor) (g : Memory) : Type 0 where
-  pub ready : Ready s g m (d .opened) (d .fill)
+  pub ready : RoomFor s g m (d .opened) (d .fill)
   pub low : 1 ≤ d .opened
   pub room : d .fill < s .block
   pub grows : c .opened ≤ d .opened
@@ -66,14 +66,14 @@ pub still-movable : {s : Settings} {f g : Memory} {x : ℕ} {l : List ℕ} → (
 still-movable e a = all-map (λ k m. record { slot = m .slot; tag = rw (e k) (m .tag) }) a
 
 -- an acceptor that is sound stays so with a record more
-placed-sound : {s : Settings} {f g : Memory} {c d : Cursor} {tag : ℕ} → Placed f c tag d g → c .fill < s .block → tag < s .tags → Sound s f (c .opened)
+placed-sound : {s : Settings} {f g : Memory} {c d : Cursor} {tag : ℕ} → RecordPut f c tag d g → c .fill < s .block → tag < s .tags → Sound s f (c .opened)
     → Sound s g (c .opened)
 placed-sound {s} {f} {g} {c} p room known i = record {
   up = rw (p .ups (c .opened)) (i .up);
   moves = λ k h e. is? k (c .fill)
       (λ u. rw u (record { slot = room; tag = rw (p .here) known }))
       (λ u.
-      let stood : stands (bitsIn f (c .opened)) k ≡ true = sym (raised-other (bitsIn f (c .opened)) (c .fill) k u) ∙ ap (λ (b : Standing). stands b k) (sym (p .bits)) ∙ e in
+      let stood : stands (blockBits f (c .opened)) k ≡ true = sym (raised-other (blockBits f (c .opened)) (c .fill) k u) ∙ ap (λ (b : Standing). stands b k) (sym (p .bits)) ∙ e in
       let m = i .moves k h stood in
       record { slot = m .slot; tag = rw (p .slots k u) (m .tag) });
 }
@@ -112,11 +112,11 @@ module _ (s : Settings) (z : Within s) where
       })) (λ d′ g′ i. record { opened = i .opened; fill = omega (arith, i .fill); tags = i .tags }))
 
   judge-full-goes : (c : Cursor) (f : Memory) (x now : ℕ) → c .opened ≡ x + 1 → c .fill ≡ 0 → 1 ≤ x → x < s .blocks → f (Field x rightWord) ≡ x + 1
-      → (length (slots (bitsIn f x)) < s .useful → Sound s f x) → Goes s (judgeFull s c x now) f (Rolled s f (x + 1))
+      → (length (slots (blockBits f x)) < s .useful → Sound s f x) → Goes s (judgeFull s c x now) f (Rolled s f (x + 1))
   unfolding judgeFull
   judge-full-goes c f x now o e low left r i =
       let nx : Numbered s x = record { low = low; high = omega arith } in
-      let l = slots (bitsIn f x) in
+      let l = slots (blockBits f x) in
       goes-standing s z x nx (goes-when
       (λ t.
       let short = ltb-true (length l) (s .useful) t in
@@ -126,7 +126,7 @@ module _ (s : Settings) (z : Within s) where
 
   -- ---- block N + 1 opens, and block N, if any, is judged
   roll-goes : (c : Cursor) (f : Memory) (now : ℕ) → c .opened < s .blocks
-      → (1 ≤ c .opened → length (slots (bitsIn f (c .opened))) < s .useful → Sound s f (c .opened)) → Goes s (roll s c now) f (Rolled s f (c .opened + 1))
+      → (1 ≤ c .opened → length (slots (blockBits f (c .opened))) < s .useful → Sound s f (c .opened)) → Goes s (roll s c now) f (Rolled s f (c .opened + 1))
   unfolding roll
   roll-goes c f now left i =
       let N = c .opened in
@@ -141,7 +141,7 @@ module _ (s : Settings) (z : Within s) where
       (λ d′ g′ r. record { opened = r .opened; fill = r .fill; tags = λ n k u. r .tags n k u ∙ o .tags n k u })))
 
   -- ---- room for a record that comes, the first of m
-  pub room-goes : {m : ℕ} (c : Cursor) (f : Memory) (now : ℕ) → Ready s f m (c .opened) (c .fill) → 1 ≤ m → Goes s (makeRoom s c now) f (Room s f m c)
+  pub room-goes : {m : ℕ} (c : Cursor) (f : Memory) (now : ℕ) → RoomFor s f m (c .opened) (c .fill) → 1 ≤ m → Goes s (makeRoom s c now) f (Room s f m c)
   unfolding makeRoom
   room-goes {m} c f now i comes =
       let N = c .opened in
@@ -181,13 +181,13 @@ module _ (s : Settings) (z : Within s) where
       }))
 
   -- ---- the record goes there
-  pub put-ready : {f g : Memory} {m tag : ℕ} {c d : Cursor} → Ready s f (m + 1) (c .opened) (c .fill) → 1 ≤ c .opened → c .fill < s .block → tag < s .tags
-      → Placed f c tag d g → Ready s g m (d .opened) (d .fill)
+  pub put-ready : {f g : Memory} {m tag : ℕ} {c d : Cursor} → RoomFor s f (m + 1) (c .opened) (c .fill) → 1 ≤ c .opened → c .fill < s .block → tag < s .tags
+      → RecordPut f c tag d g → RoomFor s g m (d .opened) (d .fill)
   put-ready {f} {g} {m} {tag} {c} {d} i low room known p =
       let N = c .opened in
       let more : s .block - c .fill ≡ suc (s .block - (c .fill + 1)) = omega arith in
-      let bits : takenUp (bitsIn g N) (c .fill + 1) (s .block - (c .fill + 1)) ≡ takenUp (bitsIn f N) (c .fill) (s .block - c .fill) =
-      ap (λ (b : Standing). takenUp b (c .fill + 1) (s .block - (c .fill + 1))) (p .bits) ∙ sym (ap (takenUp (bitsIn f N) (c .fill)) more) in
+      let bits : takenUp (blockBits g N) (c .fill + 1) (s .block - (c .fill + 1)) ≡ takenUp (blockBits f N) (c .fill) (s .block - c .fill) =
+      ap (λ (b : Standing). takenUp b (c .fill + 1) (s .block - (c .fill + 1))) (p .bits) ∙ sym (ap (takenUp (blockBits f N) (c .fill)) more) in
       rw (p .opened, p .fill) (record {
         limit = i .limit;
         fits = omega arith;
@@ -199,8 +199,8 @@ module _ (s : Settings) (z : Within s) where
       })
 
   -- ---- a record is placed, of m + 1 to come
-  pub place-goes : {m : ℕ} (c : Cursor) (f : Memory) (now tag reading : ℕ) → Ready s f (m + 1) (c .opened) (c .fill) → tag < s .tags
-      → Goes s (place s c now tag reading) f (λ d g. Ready s g m (d .opened) (d .fill))
+  pub place-goes : {m : ℕ} (c : Cursor) (f : Memory) (now tag reading : ℕ) → RoomFor s f (m + 1) (c .opened) (c .fill) → tag < s .tags
+      → Goes s (place s c now tag reading) f (λ d g. RoomFor s g m (d .opened) (d .fill))
   unfolding place
   place-goes {m} c f now tag reading i known =
       goes-on (room-goes c f now i (omega arith)) (λ d g r.

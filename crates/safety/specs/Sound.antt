@@ -10,7 +10,7 @@ use lib.Dec.{eqb, ltb, leb}
 use borrow.Author.Tests.{ne-eqb, lt-ltb, le-ltb, leb-true, leb-false, ltb-true, not-false}
 use Rattle.base.specs.Branch.{is?, lt?, and-true, or-false, eqb-same}
 use Rattle.base.specs.Bits.{withBit, withoutBit}
-use Rattle.base.specs.Places.{Lists, none, more}
+use Rattle.base.specs.Ones.{Lists, none, more}
 use Rattle.base.specs.Sums.{All, nil, cons, all-map}
 use Rattle.layout.specs.declared.settings.Settings.{Settings}
 use Rattle.layout.specs.declared.head.Head.{Head}
@@ -18,21 +18,17 @@ use Rattle.layout.specs.declared.standing.Standing.{Standing}
 use Rattle.layout.specs.declared.address.Address.the-variants.{Field, Bits, Slot}
 use Rattle.layout.specs.Fields.{upWord, rightWord, tagWord}
 use Rattle.layout.specs.Memory.{Memory, put}
-use Rattle.layout.specs.Standing.{slots, stands, raised, lowered}
-use Rattle.layout.specs.StandingLaws.{slots-list, lowered-stands, lowered-other}
+use Rattle.layout.specs.Standing.{slots, stands, raised, lowered, blockBits}
+use Rattle.layout.specs.StandingLaws.{slots-list, changed, raise-is, lower-is, lowered-stands, lowered-other}
 use Rattle.calls.specs.Refusals.{anyOf, badBlock}
-
--- the standing bits of block n
-abbrev pub bitsIn : Memory → ℕ → Standing
-bitsIn f n = record { low = f (Bits n 0); high = f (Bits n 1) }
 
 -- ---- one bit of a block changed, as the programs write it
 abbrev pub oneBit : (ℕ → ℕ → ℕ) → Memory → ℕ → ℕ → Memory
 oneBit change f n k = put f (Bits n (k / 32)) (change (k % 32) (f (Bits n (k / 32))))
 
-pub bit-raised : (f : Memory) (n k : ℕ) → k < 64 → bitsIn (oneBit withBit f n k) n ≡ raised (bitsIn f n) k
-unfolding raised
-bit-raised f n k h = lt? k 32
+bit-changed : (change : ℕ → ℕ → ℕ) (f : Memory) (n k : ℕ) → k < 64 → blockBits (oneBit change f n k) n ≡ changed change (blockBits f n) k
+unfolding changed
+bit-changed change f n k h = lt? k 32
     (λ l.
     let e : k / 32 ≡ 0 = omega arith in
     let e′ : k % 32 ≡ k = omega arith in
@@ -42,23 +38,17 @@ bit-raised f n k h = lt? k 32
     let e′ : k % 32 ≡ k - 32 = omega arith in
     simp (e, e′, eqb-same, le-ltb k 32 l))
 
-pub bit-lowered : (f : Memory) (n k : ℕ) → k < 64 → bitsIn (oneBit withoutBit f n k) n ≡ lowered (bitsIn f n) k
-unfolding lowered
-bit-lowered f n k h = lt? k 32
-    (λ l.
-    let e : k / 32 ≡ 0 = omega arith in
-    let e′ : k % 32 ≡ k = omega arith in
-    simp (e, e′, eqb-same, lt-ltb k 32 l))
-    (λ l.
-    let e : k / 32 ≡ 1 = omega arith in
-    let e′ : k % 32 ≡ k - 32 = omega arith in
-    simp (e, e′, eqb-same, le-ltb k 32 l))
+pub bit-raised : (f : Memory) (n k : ℕ) → k < 64 → blockBits (oneBit withBit f n k) n ≡ raised (blockBits f n) k
+bit-raised f n k h = bit-changed withBit f n k h ∙ sym (raise-is (blockBits f n) k)
+
+pub bit-lowered : (f : Memory) (n k : ℕ) → k < 64 → blockBits (oneBit withoutBit f n k) n ≡ lowered (blockBits f n) k
+bit-lowered f n k h = bit-changed withoutBit f n k h ∙ sym (lower-is (blockBits f n) k)
 
 pub and-none : (a : Bool) → (a && false) ≡ false
 and-none true = refl
 and-none false = refl
 
-pub bit-elsewhere : (change : ℕ → ℕ → ℕ) (f : Memory) (n k m : ℕ) → m ≢ n → bitsIn (oneBit change f n k) m ≡ bitsIn f m
+pub bit-elsewhere : (change : ℕ → ℕ → ℕ) (f : Memory) (n k m : ℕ) → m ≢ n → blockBits (oneBit change f n k) m ≡ blockBits f m
 bit-elsewhere change f n k m d = simp (ne-eqb n m (λ e. d (sym e)), and-none)
 
 -- ---- the standing slots, one by one
@@ -88,14 +78,14 @@ pub record Movable (s : Settings) (f : Memory) (x k : ℕ) : Type 0 where
 
 pub record Sound (s : Settings) (f : Memory) (n : ℕ) : Type 0 where
   pub up : f (Field n upWord) < n
-  pub moves : (k : ℕ) → k < 64 → stands (bitsIn f n) k ≡ true → Movable s f n k
+  pub moves : (k : ℕ) → k < 64 → stands (blockBits f n) k ≡ true → Movable s f n k
 
-pub sound-slots : {s : Settings} {f : Memory} {n : ℕ} → Sound s f n → All (Movable s f n) (slots (bitsIn f n))
-sound-slots {f = f} {n} i = all-map (λ k p. i .moves k (p .0) (p .1)) (lists-all (slots-list (bitsIn f n)))
+pub sound-slots : {s : Settings} {f : Memory} {n : ℕ} → Sound s f n → All (Movable s f n) (slots (blockBits f n))
+sound-slots {f = f} {n} i = all-map (λ k p. i .moves k (p .0) (p .1)) (lists-all (slots-list (blockBits f n)))
 
 -- the same block in another memory
 pub sound-in : {s : Settings} {f g : Memory} {n : ℕ} → g (Field n upWord) < n → ((k : ℕ) → g (Slot n k tagWord) ≡ f (Slot n k tagWord))
-    → ((k : ℕ) → stands (bitsIn g n) k ≡ true → stands (bitsIn f n) k ≡ true) → Sound s f n → Sound s g n
+    → ((k : ℕ) → stands (blockBits g n) k ≡ true → stands (blockBits f n) k ≡ true) → Sound s f n → Sound s g n
 sound-in u t b i = record {
   up = u;
   moves = λ k h e. let m = i .moves k h (b k e) in record { slot = m .slot; tag = rw (t k) (m .tag) };
@@ -118,12 +108,12 @@ module _ (h : Head) (f : Memory) (n : ℕ) (e : badBlock h f n ≡ false) where
   unfolding badBlock
   found-sound =
       let t : ℕ → Bool = λ k. leb (h .settings .block) k || leb (h .settings .tags) (f (Slot n k tagWord)) in
-      let a = or-false _ (anyOf t (slots (bitsIn f n))) e in
+      let a = or-false _ (anyOf t (slots (blockBits f n))) e in
       let u = or-false (leb n (f (Field n upWord))) _ (a .0) in
       record {
         up = leb-false _ _ (u .0);
         moves = λ k c o.
-            let z = or-false (leb (h .settings .block) k) _ (lists-none t (slots-list (bitsIn f n)) (a .1) k (omega arith) c o) in
+            let z = or-false (leb (h .settings .block) k) _ (lists-none t (slots-list (blockBits f n)) (a .1) k (omega arith) c o) in
             record { slot = leb-false _ _ (z .0); tag = leb-false _ _ (z .1) };
       }
 
@@ -132,7 +122,7 @@ module _ (h : Head) (f : Memory) (n : ℕ) (e : badBlock h f n ≡ false) where
   found-right d =
       let right = f (Field n rightWord) in
       let t : ℕ → Bool = λ k. leb (h .settings .block) k || leb (h .settings .tags) (f (Slot n k tagWord)) in
-      let a = or-false _ (anyOf t (slots (bitsIn f n))) e in
+      let a = or-false _ (anyOf t (slots (blockBits f n))) e in
       let u = or-false (leb n (f (Field n upWord))) (not (eqb n (h .cursor .opened)) && not (ltb n right && leb right (h .cursor .opened))) (a .0) in
       let w : not (ltb n right && leb right (h .cursor .opened)) ≡ false = rw (ne-eqb n (h .cursor .opened) d) at (u .1) in
       let z = and-true (ltb n right) _ (not-false _ w) in

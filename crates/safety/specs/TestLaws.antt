@@ -3,10 +3,9 @@
 use mathlib.Core.Path.{_≡_, refl, ap, sym, _∙_, subst}
 use mathlib.Core.Logic.{_≢_}
 use mathlib.Core.Bool.{Bool, true, false, cond, not, _&&_, _||_}
-use Prim.Native.Nat.{ℕ, _+_, _*_, _-_, _/_, _≤_, _<_}
+use Prim.Native.Nat.{ℕ, _+_, _-_, _≤_, _<_}
 use native.Mathlib.Omega.{arith}
-use native.Mathlib.Nat.{zero-add, mod-lt, div-lt-iff-lt-mul}
-use lib.Arith.{digits-lt}
+use native.Mathlib.Nat.{zero-add}
 use lib.Dec.{eqb, ltb}
 use lib.ListN.{length}
 use borrow.Author.Tests.{eqb-false, eq-eqb, ne-eqb, ltb-true, ltb-false, lt-ltb, le-ltb, not-false}
@@ -19,13 +18,14 @@ use Rattle.layout.specs.Fields.{rightWord, tagWord}
 use Rattle.layout.specs.Memory.{Memory}
 use Rattle.layout.specs.Head.{placed}
 use Rattle.layout.specs.HeadLaws.{SoundHead}
-use Rattle.layout.specs.Standing.{slots, stands, lowered}
+use Rattle.layout.specs.Spot.{Lies, place-lies}
+use Rattle.layout.specs.Standing.{slots, stands, lowered, blockBits}
 use Rattle.layout.specs.StandingLaws.{lowered-fewer}
-use Rattle.calls.specs.Placing.{blockOf, slotOf}
+use Rattle.calls.specs.Placing.{slotOf}
 use Rattle.calls.specs.Refusals.{opens, takenUp, acceptorCloses, tagBlock, remaining, closes, copies, afterClear, badPlace, badBlock, unsoundSet, unsoundClear, blocksOut}
-use Rattle.safety.specs.Sound.{bitsIn, Sound, Between, found-sound, found-right}
+use Rattle.safety.specs.Sound.{Sound, Between, found-sound, found-right}
 use Rattle.safety.specs.Parts.{Ended}
-use Rattle.safety.specs.Room.{Ready}
+use Rattle.safety.specs.Room.{RoomFor}
 use Rattle.safety.specs.Leaving.{Clearable, ended-sound}
 
 -- a false `&&` whose first test is true, and a `||` whose last is
@@ -53,8 +53,8 @@ module _ (h : Head) (sound : SoundHead h) where
   -- The acceptor is ready for m records in a memory g in which its standing bits are a, those that the test looked at, and in which it is sound if the
   -- words as found say so.
   pub ready-for : {m : ℕ} (f : Memory) (a : Standing) → m ≤ s .useful → blocksOut h m ≡ false
-      → (acceptorCloses h a m && badBlock h f (h .cursor .opened)) ≡ false → {g : Memory} → bitsIn g (h .cursor .opened) ≡ a
-      → (Sound s f (h .cursor .opened) → Sound s g (h .cursor .opened)) → Ready s g m (h .cursor .opened) (h .cursor .fill)
+      → (acceptorCloses h a m && badBlock h f (h .cursor .opened)) ≡ false → {g : Memory} → blockBits g (h .cursor .opened) ≡ a
+      → (Sound s f (h .cursor .opened) → Sound s g (h .cursor .opened)) → RoomFor s g m (h .cursor .opened) (h .cursor .fill)
   ready-for {m} f a few out bad {g} bits keeps = record {
     limit = sound .opened;
     fits = sound .fill;
@@ -69,37 +69,9 @@ module _ (h : Head) (sound : SoundHead h) where
         keeps (found-sound h f (h .cursor .opened) (and-rest bad closing));
   }
 
-  pub set-ready : (f : Memory) → unsoundSet h f ≡ false → blocksOut h 1 ≡ false → Ready s f 1 (h .cursor .opened) (h .cursor .fill)
+  pub set-ready : (f : Memory) → unsoundSet h f ≡ false → blocksOut h 1 ≡ false → RoomFor s f 1 (h .cursor .opened) (h .cursor .fill)
   unfolding unsoundSet
-  set-ready f bad out = ready-for f (bitsIn f (h .cursor .opened)) (sound .within .some) out bad refl (λ i. i)
-
--- ---- a place, not 0 and not above the records placed, lies in a block opened
-pub record Lies (h : Head) (p : ℕ) : Type 0 where
-  pub some : 1 ≤ h .cursor .opened
-  pub high : blockOf (h .settings) p ≤ h .cursor .opened
-  pub slot : slotOf (h .settings) p < h .settings .block
-
-place-high : (b p n fill : ℕ) → 1 ≤ b → 1 ≤ p → 1 ≤ n → 1 ≤ fill → fill ≤ b → p ≤ (n - 1) * b + fill → (p - 1) / b + 1 ≤ n
-place-high b p n fill some one low used fits most =
-    let x : n - 1 < n = omega arith in
-    let y : fill - 1 < b = omega arith in
-    let w : p - 1 < n * b = omega (arith, digits-lt x y) in
-    let v : (p - 1) / b < n = div-lt-iff-lt-mul some .1 w in
-    omega arith
-
-pub place-lies : (h : Head) (p : ℕ) → SoundHead h → 1 ≤ p → p ≤ placed h → Lies h p
-unfolding placed
-place-lies h p sound one most =
-    let N = h .cursor .opened in
-    let b = h .settings .block in
-    let some : 1 ≤ b = omega (arith, sound .within .least) in
-    let low : 1 ≤ N = is? N 0 (λ z. let y : p ≤ 0 = rw (eq-eqb N 0 z) at most in absurd (omega arith)) (λ z. omega arith) in
-    let y : p ≤ (N - 1) * b + h .cursor .fill = rw (ne-eqb N 0 (λ z. omega arith)) at most in
-    record {
-      some = low;
-      high = place-high b p N (h .cursor .fill) some one low (sound .some low) (sound .fill) y;
-      slot = mod-lt (p - 1) some;
-    }
+  set-ready f bad out = ready-for f (blockBits f (h .cursor .opened)) (sound .within .some) out bad refl (λ i. i)
 
 -- ---- a tag is to be cleared, with `more` records to come after the copies of its block: what refusal 12 says when it does not apply
 module _ (h : Head) (sound : SoundHead h) (f : Memory) (tag : ℕ) (d : f (Dir tag) ≢ 0) (more : ℕ) (bad : unsoundClear h f more tag ≡ false) where
@@ -124,11 +96,11 @@ module _ (h : Head) (sound : SoundHead h) (f : Memory) (tag : ℕ) (d : f (Dir t
   not-block : (closes h f n && badBlock h f n) ≡ false
   not-block = or-false (badPlace h f tag) _ (tests .0) .1
 
-  pub good-place : (f (Dir tag) ≤ placed h) × (stands (bitsIn f n) k ≡ true)
+  pub good-place : (f (Dir tag) ≤ placed h) × (stands (blockBits f n) k ≡ true)
   unfolding badPlace
   good-place =
       let e = or-false (badPlace h f tag) _ (tests .0) .0 in
-      let u = or-false _ (not (stands (bitsIn f n) k)) e in
+      let u = or-false _ (not (stands (blockBits f n) k)) e in
       let w = or-false (ltb (placed h) (f (Dir tag))) (not (eqb (f (Slot n k tagWord)) tag)) (u .0) in
       (ltb-false (placed h) (f (Dir tag)) (w .0), not-false _ (u .1))
 
@@ -136,8 +108,8 @@ module _ (h : Head) (sound : SoundHead h) (f : Memory) (tag : ℕ) (d : f (Dir t
   lies = place-lies h (f (Dir tag)) sound (omega arith) (good-place .0)
 
   -- one record fewer stands where the tag's has ended
-  pub fewer : length (slots (lowered (bitsIn f n) k)) ≡ remaining h f n
-  fewer = omega (arith, lowered-fewer (bitsIn f n) k (omega (arith, lies .slot, sound .within .most)) (good-place .1))
+  pub fewer : length (slots (lowered (blockBits f n) k)) ≡ remaining h f n
+  fewer = omega (arith, lowered-fewer (blockBits f n) k (omega (arith, lies .slot, sound .within .most)) (good-place .1))
 
   closes-few : n ≢ N → remaining h f n < q → closes h f n ≡ true
   closes-few apart few = simp (ne-eqb n N apart, lt-ltb (remaining h f n) q few)
@@ -155,31 +127,31 @@ module _ (h : Head) (sound : SoundHead h) (f : Memory) (tag : ℕ) (d : f (Dir t
 
   -- with the tag's record ended the acceptor's bits are those that the test looked at; and with refusal 13 not applying it is ready
   module _ (one : more ≤ 1) (out : blocksOut h (copies h f n + more) ≡ false) (g : Memory) (e : Ended f n k g) where
-    bits-after : bitsIn g N ≡ afterClear h f tag
+    bits-after : blockBits g N ≡ afterClear h f tag
     bits-after = is? n N
         (λ u. simp (eq-eqb n N u) (rw u at (e .here)))
         (λ u. simp (ne-eqb n N u) (e .elsewhere N (λ w. u (sym w))))
 
-    ready-after : Ready (h .settings) g (copies h f n + more) N (h .cursor .fill)
+    ready-after : RoomFor (h .settings) g (copies h f n + more) N (h .cursor .fill)
     ready-after = ready-for h sound f (afterClear h f tag) (copies-few one) out (tests .1) bits-after (λ i. ended-sound e i)
 
   pub clearable : more ≤ 1 → blocksOut h (copies h f n + more) ≡ false → Clearable (h .settings) f (h .cursor) n k more
   clearable one out = record {
     high = lies .high;
     slot = lies .slot;
-    acceptor = λ g e u. subst (λ (m : ℕ). Ready (h .settings) g m N (h .cursor .fill)) (none-here u) (ready-after one out g e);
+    acceptor = λ g e u. subst (λ (m : ℕ). RoomFor (h .settings) g m N (h .cursor .fill)) (none-here u) (ready-after one out g e);
     closes = λ g e apart short.
         let few : remaining h f n < q = subst (λ (m : ℕ). m < q) fewer short in
         let t = closes-few apart few in
         let good = and-rest not-block t in
-        let moved : copies h f n + more ≡ length (slots (bitsIn g n)) + more =
+        let moved : copies h f n + more ≡ length (slots (blockBits g n)) + more =
         ap (λ (y : Bool). cond y (remaining h f n) 0 + more) t ∙ ap (λ (m : ℕ). m + more) (sym fewer ∙ ap (λ (b : Standing). length (slots b)) (sym (e .here))) in
         let right : Between n (g (Field n rightWord)) N = rw (e .fields n rightWord) (found-right h f n good apart) in
         record {
           sound = ended-sound e (found-sound h f n good);
           right = right;
-          ready = subst (λ (m : ℕ). Ready (h .settings) g m N (h .cursor .fill)) moved (ready-after one out g e);
+          ready = subst (λ (m : ℕ). RoomFor (h .settings) g m N (h .cursor .fill)) moved (ready-after one out g e);
         };
     stays = λ g e apart many.
-        subst (λ (m : ℕ). Ready (h .settings) g m N (h .cursor .fill)) (none-many apart (subst (λ (m : ℕ). q ≤ m) fewer many)) (ready-after one out g e);
+        subst (λ (m : ℕ). RoomFor (h .settings) g m N (h .cursor .fill)) (none-many apart (subst (λ (m : ℕ). q ≤ m) fewer many)) (ready-after one out g e);
   }

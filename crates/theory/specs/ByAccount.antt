@@ -16,11 +16,8 @@ use Rattle.layout.specs.declared.head.Cursor.{Cursor}
 use Rattle.layout.specs.declared.head.Head.{Head}
 use Rattle.layout.specs.declared.address.Address.the-variants.{Dir}
 use Rattle.layout.specs.Sizes.{OPEN, headLen, rowLen, layoutLen}
-use Rattle.layout.specs.Address.{Valid}
-use Rattle.layout.specs.Interp.{Same}
 use Rattle.layout.specs.Memory.{Memory}
 use Rattle.layout.specs.Head.{headOf}
-use Rattle.layout.specs.HeadLaws.{SoundHead}
 use Rattle.layout.specs.OverLaws.{over-fits}
 use Rattle.calls.specs.Calls.{Call, Start, Set, Clear, Update, Advance, Ask, LookBack, Refused, accepted}
 use Rattle.calls.specs.Refusals.{Test, opens, tagBlock, copies, unsoundSet, unsoundClear, blocksOut, storeTests, timeTests, clearOwn}
@@ -29,19 +26,18 @@ use Rattle.calls.specs.Book.{Book, bookSet, bookClear, bookUpdate}
 use Rattle.calls.specs.Log.{soFar, among, stateAt}
 use Rattle.calls.specs.History.{Account, enters, outOfBlocks, accountTime, accountClear, accountTests}
 use Rattle.calls.specs.Claims.{First, Asked}
-use Rattle.theory.specs.Reading.{none}
+use Rattle.theory.specs.Timeline.{none}
 use Rattle.theory.specs.State.{free, not-found}
 use Rattle.theory.specs.SoFar.{so-far, among-none, none-among, never-shows}
 use Rattle.theory.specs.LogLaws.{readings}
 use Rattle.theory.specs.Foretelling.{set-foretold, clear-foretold, update-foretold}
-use Rattle.theory.specs.Copies.{headWith, copiesOf}
+use Rattle.theory.specs.Rest.{headWith, copiesOf, booked-length, after-set, after-clear, after-update}
 use Rattle.theory.specs.Sound.{set-sound, clear-sound, same-copies}
-use Rattle.theory.specs.BookCalls.{booked-length, booked-set, booked-clear, booked-update}
-use Rattle.theory.specs.LookAnswers.{walk-sound}
+use Rattle.theory.specs.Right.{walk-sound}
 use Rattle.theory.specs.Stored.{head-passes}
-use Rattle.theory.specs.TestLaws.{Alike, same, both, idle, alike-free, free-alike, alike-first, without, never-first}
+use Rattle.theory.specs.TestLaws.{TablesAlike, same, both, idle, alike-free, free-alike, alike-first, lacks, never-first}
 use Rattle.theory.specs.EveryLookBack.{every-call}
-use Rattle.theory.specs.Honest.{Honest, head-is, word-is, sound}
+use Rattle.theory.specs.Honest.{Honest, head-is, word-is, sound, words-same, head-sound}
 
 -- refusal 13 by the blocks that there would be
 out-is : (h : Head) (m n : ℕ) → h .cursor .opened ≤ h .settings .blocks → n ≡ cond (opens h m) (h .cursor .opened + 1) (h .cursor .opened)
@@ -70,17 +66,11 @@ module _ {ws : List ℕ} {a : Account} (i : Honest ws a) where
   abbrev h : Head
   h = headWith s c
 
-  head-sound : SoundHead h
-  head-sound = i .stored .read .sound
-
   pub settings-is : headOf ws .settings ≡ s
   settings-is = ap (λ (x : Head). x .settings) (head-is i)
 
   pub clock-is : headOf ws .cursor .clock ≡ a .clock
   clock-is = ap (λ (x : Head). x .cursor .clock) (head-is i) ∙ i .clock
-
-  words-same : Same (wordsRead ws) (Valid s) f
-  words-same = record { at = word-is i }
 
   -- ---- the directory's word is 0 exactly for the tags that do not stand
   pub free-among : (tag : ℕ) → f (Dir tag) ≡ 0 → among tag (soFar (a .log)) ≡ false
@@ -100,13 +90,13 @@ module _ {ws : List ℕ} {a : Account} (i : Honest ws a) where
       refl
 
   -- ---- the tests of the words never apply, those of the second are the account's
-  by-store : {l m : List Test} → Alike l m → Alike (storeTests ws l) m
+  by-store : {l m : List Test} → TablesAlike l m → TablesAlike (storeTests ws l) m
   by-store g =
       let room : ltb (length ws) (layoutLen (headOf ws .settings)) ≡ false =
       ap (λ (x : Settings). ltb (length ws) (layoutLen x)) settings-is ∙ le-ltb (length ws) (layoutLen s) (over-fits s (i .stored .agree .good) .long) in
       idle (le-ltb (length ws) headLen (i .stored .read .long)) (idle (head-passes (i .stored .read)) (idle room g))
 
-  by-time : (now : ℕ) {l m : List Test} → (c .clock ≤ now → now < OPEN → Alike l m) → Alike (timeTests ws now l) (accountTime a now m)
+  by-time : (now : ℕ) {l m : List Test} → (c .clock ≤ now → now < OPEN → TablesAlike l m) → TablesAlike (timeTests ws now l) (accountTime a now m)
   by-time now g =
       by-store (both refl refl (λ x₅. both refl (ap (λ (t : ℕ). ltb now t) clock-is) (λ x₆.
       g (omega (arith, i .clock, ltb-false now (a .clock) x₆)) (leb-false OPEN now x₅))))
@@ -115,18 +105,18 @@ module _ {ws : List ℕ} {a : Account} (i : Honest ws a) where
   tags-is tag = ap (λ (x : Settings). leb (x .tags) tag) settings-is
 
   -- ---- refusal 13, by the blocks of the book after the change
-  set-out : (now tag reading : ℕ) → c .clock ≤ now → now < OPEN → blocksOut (headOf ws) 1 ≡ outOfBlocks a (bookSet now tag (a .book))
-  set-out now tag reading later ends =
+  set-out : (now tag reading : ℕ) → c .clock ≤ now → now < OPEN → tag < s .tags → f (Dir tag) ≡ 0 → blocksOut (headOf ws) 1 ≡ outOfBlocks a (bookSet now tag (a .book))
+  set-out now tag reading later ends known d =
       ap (λ (x : Head). blocksOut x 1) (head-is i)
-      ∙ out-is h 1 _ (head-sound .opened)
-      (booked-length (booked-set c f (i .rest) (i .booked) now later ends tag reading) ∙ set-foretold h head-sound f now tag reading .blocks)
+      ∙ out-is h 1 _ (head-sound i .opened)
+      (booked-length (after-set (i .rest) (i .booked) now later ends tag reading known d .booked) ∙ set-foretold h (head-sound i) f now tag reading .blocks)
 
   module _ (now tag : ℕ) (later : c .clock ≤ now) (ends : now < OPEN) (known : tag < s .tags) (d : f (Dir tag) ≢ 0) where
     incoming : (more : ℕ) → blocksOut (headOf ws) (copies (headOf ws) (wordsRead ws) (tagBlock (headOf ws) (wordsRead ws) tag) + more)
         ≡ blocksOut h (copiesOf s c f tag + more)
     incoming more =
         ap (λ (x : Head). blocksOut x (copies x (wordsRead ws) (tagBlock x (wordsRead ws) tag) + more)) (head-is i)
-        ∙ ap (λ (m : ℕ). blocksOut h (m + more)) (same-copies c f (i .rest) (wordsRead ws) words-same tag known d)
+        ∙ ap (λ (m : ℕ). blocksOut h (m + more)) (same-copies c f (i .rest) (wordsRead ws) (words-same i) tag known d)
 
     own-sound : (more : ℕ) → unsoundClear h f more tag ≡ false
     own-sound more = clear-sound c f (i .rest) f (record { at = λ x v. refl }) tag known d more
@@ -134,23 +124,23 @@ module _ {ws : List ℕ} {a : Account} (i : Honest ws a) where
     clear-out : blocksOut (headOf ws) (copies (headOf ws) (wordsRead ws) (tagBlock (headOf ws) (wordsRead ws) tag) + 0)
         ≡ outOfBlocks a (bookClear now tag (a .book))
     clear-out =
-        incoming 0 ∙ out-is h (copiesOf s c f tag + 0) _ (head-sound .opened)
-        (booked-length (booked-clear c f (i .rest) (i .booked) now later ends tag d) ∙ clear-foretold h head-sound f now tag d (own-sound 0) .blocks)
+        incoming 0 ∙ out-is h (copiesOf s c f tag + 0) _ (head-sound i .opened)
+        (booked-length (after-clear (i .rest) (i .booked) now later ends tag d .booked) ∙ clear-foretold h (head-sound i) f now tag d (own-sound 0) .blocks)
 
     update-out : (reading : ℕ) → blocksOut (headOf ws) (copies (headOf ws) (wordsRead ws) (tagBlock (headOf ws) (wordsRead ws) tag) + 1)
         ≡ outOfBlocks a (bookUpdate now tag (a .book))
     update-out reading =
-        incoming 1 ∙ out-is h (copiesOf s c f tag + 1) _ (head-sound .opened)
-        (booked-length (booked-update c f (i .rest) (i .booked) now later ends tag reading d)
-        ∙ update-foretold h head-sound f now tag reading d (own-sound 1) .blocks)
+        incoming 1 ∙ out-is h (copiesOf s c f tag + 1) _ (head-sound i .opened)
+        (booked-length (after-update (i .rest) (i .booked) now later ends tag d reading known .booked)
+        ∙ update-foretold h (head-sound i) f now tag reading d (own-sound 1) .blocks)
 
   -- ---- the tests of each call
-  by-set : (now tag reading : ℕ) → Alike (testsOf ws (Set now tag reading)) (accountTests (length ws) a (Set now tag reading))
+  by-set : (now tag reading : ℕ) → TablesAlike (testsOf ws (Set now tag reading)) (accountTests (length ws) a (Set now tag reading))
   by-set now tag reading = by-time now (λ later ends. both refl (tags-is tag) (λ x₈.
       let known = leb-false (s .tags) tag x₈ in
       both refl (ap not (word-free tag known) ∙ twice (among tag (soFar (a .log)))) (λ x₉.
-      idle (ap (λ (x : Head). unsoundSet x (wordsRead ws)) (head-is i) ∙ set-sound c f (i .rest) (wordsRead ws) words-same)
-      (both refl (set-out now tag reading later ends) (λ x₁₃. same)))))
+      idle (ap (λ (x : Head). unsoundSet x (wordsRead ws)) (head-is i) ∙ set-sound c f (i .rest) (wordsRead ws) (words-same i))
+      (both refl (set-out now tag reading later ends known (among-free tag x₉)) (λ x₁₃. same)))))
     where
       twice : (b : Bool) → not (not b) ≡ b
       twice true = refl
@@ -159,19 +149,19 @@ module _ {ws : List ℕ} {a : Account} (i : Honest ws a) where
   by-clear : (more now tag : ℕ) (after : Book)
       → (c .clock ≤ now → now < OPEN → tag < s .tags → f (Dir tag) ≢ 0
       → blocksOut (headOf ws) (copies (headOf ws) (wordsRead ws) (tagBlock (headOf ws) (wordsRead ws) tag) + more) ≡ outOfBlocks a after)
-      → Alike (timeTests ws now (clearOwn more (headOf ws) (wordsRead ws) tag)) (accountClear a now tag after)
+      → TablesAlike (timeTests ws now (clearOwn more (headOf ws) (wordsRead ws) tag)) (accountClear a now tag after)
   by-clear more now tag after out = by-time now (λ later ends. both refl (tags-is tag) (λ x₈.
       let known = leb-false (s .tags) tag x₈ in
       both refl (word-free tag known) (λ x₁₀.
       let d : f (Dir tag) ≢ 0 = λ e. let y = free-among tag e in let z : _≡_ {A = ℕ} 0 1 = cc in omega arith in
-      idle (ap (λ (x : Head). unsoundClear x (wordsRead ws) more tag) (head-is i) ∙ clear-sound c f (i .rest) (wordsRead ws) words-same tag known d more)
+      idle (ap (λ (x : Head). unsoundClear x (wordsRead ws) more tag) (head-is i) ∙ clear-sound c f (i .rest) (wordsRead ws) (words-same i) tag known d more)
       (both refl (out later ends known d) (λ x₁₃. same)))))
 
   short-is : (rows list : List ℕ) → (ltb (length rows) (rowLen * headOf ws .settings .tags) || ltb (length list) (headOf ws .settings .blocks))
       ≡ (ltb (length rows) (rowLen * s .tags) || ltb (length list) (s .blocks))
   short-is rows list = ap (λ (x : Settings). ltb (length rows) (rowLen * x .tags) || ltb (length list) (x .blocks)) settings-is
 
-  pub decides : (x : Call) → Alike (testsOf ws x) (accountTests (length ws) a x)
+  pub decides : (x : Call) → TablesAlike (testsOf ws x) (accountTests (length ws) a x)
   decides (Start r) = both refl refl (λ x₁. idle (le-ltb (length ws) headLen (i .stored .read .long)) (both refl refl (λ x₄. same)))
   decides (Set now tag reading) = by-set now tag reading
   decides (Clear now tag) = by-clear 0 now tag (bookClear now tag (a .book)) (λ later ends known d. clear-out now tag later ends known d)
@@ -189,7 +179,7 @@ module _ {ws : List ℕ} {a : Account} (i : Honest ws a) where
   refused-by x n e = alike-first (decides x) (every-call ws x .refused-first n e)
 
   -- REFUSAL 12 NEVER COMES
-  no-12 : (x : Call) → without 12 (accountTests (length ws) a x) ≡ true
+  no-12 : (x : Call) → lacks 12 (accountTests (length ws) a x) ≡ true
   no-12 (Start r) = refl
   no-12 (Set now tag reading) = refl
   no-12 (Clear now tag) = refl

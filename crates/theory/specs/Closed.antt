@@ -3,7 +3,7 @@
 -- slots taken; then there is room for all that still come (After).
 use mathlib.Core.Path.{_≡_, refl, sym, ap, _∙_, subst}
 use mathlib.Core.Logic.{_≢_}
-use mathlib.Core.Bool.{Bool, true, false, cond, _&&_, and-true, and-false}
+use mathlib.Core.Bool.{Bool, false, cond, _&&_, and-true, and-false}
 use mathlib.Core.List.{List, _∷_}
 use Prim.Native.Nat.{ℕ, suc, _+_, _*_, _-_, _≤_, _<_}
 use native.Mathlib.Omega.{arith}
@@ -15,19 +15,19 @@ use Rattle.base.specs.Bits.{withoutBit}
 use Rattle.layout.specs.declared.settings.Settings.{Settings}
 use Rattle.layout.specs.declared.head.Cursor.{Cursor}
 use Rattle.layout.specs.declared.standing.Standing.{Standing}
-use Rattle.layout.specs.declared.address.Address.{Address}
-use Rattle.layout.specs.declared.address.Address.the-variants.{Head, Time, Dir, Field, Bits, Slot}
+use Rattle.layout.specs.declared.address.Address.the-variants.{Field, Slot}
 use Rattle.layout.specs.Sizes.{OPEN}
 use Rattle.layout.specs.Fields.{closedWord, upWord, tagWord, readingWord}
 use Rattle.layout.specs.Settings.{Within}
 use Rattle.layout.specs.Memory.{Memory}
 use Rattle.layout.specs.Program.{runOn}
-use Rattle.layout.specs.Standing.{slots, raised}
+use Rattle.layout.specs.Standing.{slots, raised, blockBits}
 use Rattle.calls.specs.Placing.{enterTime, openBlock, unlink, endRecord, standing, putRecord, moveRecord, closeFull, judgeFull, roll, makeRoom, place, replace}
 use Rattle.calls.specs.Refusals.{takenUp}
-use Rattle.safety.specs.Sound.{bitsIn, bit-raised, bit-elsewhere}
-use Rattle.theory.specs.RunLaws.{each-walk, framed}
-use Rattle.theory.specs.Effects.{enter-only}
+use Rattle.safety.specs.Sound.{bit-raised, bit-elsewhere}
+use Rattle.theory.specs.RunLaws.{each-walk}
+use Rattle.theory.specs.Effects.{enter-keeps, open-marks-other}
+use Rattle.theory.specs.State.{open-cursor}
 
 abbrev pub closedOf : Memory → ℕ → ℕ
 closedOf f n = f (Field n closedWord)
@@ -41,7 +41,7 @@ pub record Shut (f : Memory) (c : Cursor) (x now : ℕ) (d : Cursor) (g : Memory
   pub opened : d .opened ≡ c .opened
   pub fill : d .fill ≡ c .fill
   pub closed : (n : ℕ) → closedOf g n ≡ cond (eqb x n) now (closedOf f n)
-  pub bits : (n : ℕ) → bitsIn g n ≡ bitsIn f n
+  pub bits : (n : ℕ) → blockBits g n ≡ blockBits f n
 
 pub unlink-shuts : (c : Cursor) (x now : ℕ) (f : Memory) → let z = runOn (unlink c x now) f in Shut f c x now (z .0) (z .1)
 unfolding unlink
@@ -51,51 +51,26 @@ unlink-shuts c x now f =
     (λ t. record { opened = refl; fill = refl; closed = λ n. refl; bits = λ n. refl })
 
 -- ---- block N + 1 opens
-record Kept (f g : Memory) : Type 0 where
-  closed : (n : ℕ) → closedOf g n ≡ closedOf f n
-  bits : (n : ℕ) → bitsIn g n ≡ bitsIn f n
-
--- the index alone
-abbrev inIndex : Address → Bool
-inIndex (Head j) = false
-inIndex (Time l i) = true
-inIndex (Dir t) = false
-inIndex (Field n j) = false
-inIndex (Bits n w) = false
-inIndex (Slot n k i) = false
-
-times-kept : (i now : ℕ) (f : Memory) → Kept f ((runOn (enterTime i now) f) .1)
-times-kept i now f =
-    let same : (a : Address) → inIndex a ≡ false → (runOn (enterTime i now) f) .1 a ≡ f a = framed inIndex (enterTime i now) f (enter-only inIndex (λ l k. refl) i now) in
-    record { closed = λ n. same (Field n closedWord) refl; bits = λ n j. record { low = same (Bits n 0) refl j; high = same (Bits n 1) refl j } }
-
 pub record Grown (f : Memory) (c d : Cursor) (g : Memory) : Type 0 where
   pub opened : d .opened ≡ c .opened + 1
   pub fill : d .fill ≡ 0
   pub closed : (n : ℕ) → n ≢ c .opened + 1 → closedOf g n ≡ closedOf f n
-  pub bits : (n : ℕ) → n ≢ c .opened + 1 → bitsIn g n ≡ bitsIn f n
+  pub bits : (n : ℕ) → n ≢ c .opened + 1 → blockBits g n ≡ blockBits f n
   pub new : closedOf g (c .opened + 1) ≡ OPEN
 
 pub open-grows : (c : Cursor) (now : ℕ) (f : Memory) → let z = runOn (openBlock c now) f in Grown f c (z .0) (z .1)
 unfolding openBlock
 open-grows c now f =
-    let k = times-kept (c .opened) now f in
-    let old : (n : ℕ) → n ≢ c .opened + 1 → eqb (c .opened + 1) n ≡ false = λ n d. ne-eqb (c .opened + 1) n (λ e. d (sym e)) in
-    cond-all (λ (z : Cursor × Memory). Grown f c (z .0) (z .1)) (eqb (c .opened) 0)
-    (λ t. record {
-      opened = refl;
-      fill = refl;
-      closed = λ n d. simp (old n d) (k .closed n);
-      bits = λ n d. simp (old n d) (k .bits n);
-      new = simp eqb-same;
-    })
-    (λ t. record {
-      opened = refl;
-      fill = refl;
-      closed = λ n d. simp (old n d) (k .closed n);
-      bits = λ n d. simp (old n d) (k .bits n);
-      new = simp eqb-same;
-    })
+    let N = c .opened in
+    let old : (n : ℕ) → n ≢ N + 1 → eqb (N + 1) n ≡ false = λ n d. ne-eqb (N + 1) n (λ e. d (sym e)) in
+    let kept : (n : ℕ) → (runOn (enterTime N now) f) .1 (Field n closedWord) ≡ closedOf f n = λ n. enter-keeps N now f (Field n closedWord) refl in
+    record {
+      opened = open-cursor c now f .0;
+      fill = open-cursor c now f .1;
+      closed = λ n d. cond-all (λ (z : Cursor × Memory). closedOf (z .1) n ≡ closedOf f n) (eqb N 0) (λ t. simp (old n d) (kept n)) (λ t. simp (old n d) (kept n));
+      bits = λ n d k. record { low = open-marks-other c now f n 0 d k; high = open-marks-other c now f n 1 d k };
+      new = cond-all (λ (z : Cursor × Memory). closedOf (z .1) (N + 1) ≡ OPEN) (eqb N 0) (λ t. simp eqb-same) (λ t. simp eqb-same);
+    }
 
 -- ---- the old acceptor is judged: its slots go to the new block
 record Emptied (g₀ : Memory) (y total : ℕ) (l : List ℕ) (c : Cursor) (g : Memory) : Type 0 where
@@ -113,18 +88,18 @@ module _ (s : Settings) where
   record Judged (f : Memory) (x now y : ℕ) (d : Cursor) (g : Memory) : Type 0 where
     opened : d .opened ≡ y
     fill : d .fill < s .useful
-    closed : (n : ℕ) → closedOf g n ≡ cond (eqb x n && tooFew s (bitsIn f x)) now (closedOf f n)
+    closed : (n : ℕ) → closedOf g n ≡ cond (eqb x n && tooFew s (blockBits f x)) now (closedOf f n)
 
   judge-full-closed : (c : Cursor) (x now : ℕ) (f : Memory) → c .fill ≡ 0 → 1 ≤ s .useful
       → let z = runOn (judgeFull s c x now) f in Judged f x now (c .opened) (z .0) (z .1)
   unfolding judgeFull standing closeFull
   judge-full-closed c x now f e some =
-      let l = slots (bitsIn f x) in
+      let l = slots (blockBits f x) in
       let u = runOn (unlink c x now) f in
       let w = unlink-shuts c x now f in
       let m = each-walk (Emptied (u .1) (c .opened) (length l)) (moveRecord s x now) (move-emptied x now) l (u .0) (u .1)
       (record { opened = w .opened; fill = omega (arith, w .fill); closed = λ n. refl }) in
-      cond-all (λ (z : Cursor × Memory). Judged f x now (c .opened) (z .0) (z .1)) (tooFew s (bitsIn f x))
+      cond-all (λ (z : Cursor × Memory). Judged f x now (c .opened) (z .0) (z .1)) (tooFew s (blockBits f x))
       (λ t. record {
         opened = m .opened;
         fill = omega (arith, m .fill, ltb-true (length l) (s .useful) t);
@@ -136,7 +111,7 @@ module _ (s : Settings) where
   record Rolled (f : Memory) (N now : ℕ) (d : Cursor) (g : Memory) : Type 0 where
     opened : d .opened ≡ N + 1
     fill : d .fill < s .useful
-    closed : (n : ℕ) → n ≢ N + 1 → closedOf g n ≡ cond (eqb N n && tooFew s (bitsIn f N)) now (closedOf f n)
+    closed : (n : ℕ) → n ≢ N + 1 → closedOf g n ≡ cond (eqb N n && tooFew s (blockBits f N)) now (closedOf f n)
     new : closedOf g (N + 1) ≡ OPEN
 
   roll-closed : (c : Cursor) (now : ℕ) (f : Memory) → 1 ≤ c .opened → 1 ≤ s .useful
@@ -152,7 +127,7 @@ module _ (s : Settings) where
         fill = j .fill;
         closed = λ n d. j .closed n
             ∙ ap (λ (b : Standing). cond (eqb N n && tooFew s b) now (closedOf (o .1) n)) (w .bits N (λ e. omega arith))
-            ∙ ap (λ (v : ℕ). cond (eqb N n && tooFew s (bitsIn f N)) now v) (w .closed n d);
+            ∙ ap (λ (v : ℕ). cond (eqb N n && tooFew s (blockBits f N)) now v) (w .closed n d);
         new = j .closed (N + 1) ∙ rw (ne-eqb N (N + 1) (λ e. omega arith)) (w .new);
       })
 
@@ -163,7 +138,7 @@ module _ (s : Settings) (N total now : ℕ) (few : Bool) (C : ℕ → ℕ) where
     pub opened : c .opened ≡ N
     pub fill : c .fill + m ≡ total
     pub fits : c .fill ≤ s .block
-    pub bits : tooFew s (takenUp (bitsIn g N) (c .fill) (s .block - c .fill)) ≡ few
+    pub bits : tooFew s (takenUp (blockBits g N) (c .fill) (s .block - c .fill)) ≡ few
     pub closed : (n : ℕ) → closedOf g n ≡ C n
 
   -- One has, because they had no room.
@@ -195,7 +170,7 @@ module _ {s : Settings} (z : Within s) {N total now : ℕ} {few : Bool} {C : ℕ
       let full = eqb-true (c .fill) (s .block) t in
       let r = roll-closed s c now f (omega (arith, i .opened)) (z .some) in
       let none : s .block - c .fill ≡ 0 = omega arith in
-      let these : tooFew s (bitsIn f (c .opened)) ≡ few = rw (i .opened) (rw none at (i .bits)) in
+      let these : tooFew s (blockBits f (c .opened)) ≡ few = rw (i .opened) (rw none at (i .bits)) in
       record {
         along = after (record {
           opened = r .opened ∙ ap (λ (n : ℕ). n + 1) (i .opened);
@@ -224,14 +199,14 @@ module _ {s : Settings} (z : Within s) {N total now : ℕ} {few : Bool} {C : ℕ
       go (before i) =
           let g = (runOn (putRecord s c now tag reading) f) .1 in
           let more : s .block - c .fill ≡ suc (s .block - (c .fill + 1)) = omega (arith, r .room) in
-          let raise : bitsIn g (c .opened) ≡ raised (bitsIn f (c .opened)) (c .fill) = bit-raised f (c .opened) (c .fill) (omega (arith, r .room, z .most)) in
-          let raise′ : bitsIn g N ≡ raised (bitsIn f N) (c .fill) = subst (λ (n : ℕ). bitsIn g n ≡ raised (bitsIn f n) (c .fill)) (i .opened) raise in
+          let raise : blockBits g (c .opened) ≡ raised (blockBits f (c .opened)) (c .fill) = bit-raised f (c .opened) (c .fill) (omega (arith, r .room, z .most)) in
+          let raise′ : blockBits g N ≡ raised (blockBits f N) (c .fill) = subst (λ (n : ℕ). blockBits g n ≡ raised (blockBits f n) (c .fill)) (i .opened) raise in
           before (record {
             opened = i .opened;
             fill = omega (arith, i .fill);
             fits = omega (arith, r .room);
             bits = ap (λ (b : Standing). tooFew s (takenUp b (c .fill + 1) (s .block - (c .fill + 1)))) raise′
-                ∙ ap (λ (n : ℕ). tooFew s (takenUp (bitsIn f N) (c .fill) n)) (sym more) ∙ i .bits;
+                ∙ ap (λ (n : ℕ). tooFew s (takenUp (blockBits f N) (c .fill) n)) (sym more) ∙ i .bits;
             closed = i .closed;
           })
       go (after i) = after (record { opened = i .opened; fill = omega (arith, i .fill); over = i .over; closed = i .closed; new = i .new })

@@ -1,7 +1,8 @@
--- The links that a cursor and a memory hold, and what the parts of a change do to them: `unlink` is a leaving of the row (Unlinked),
--- `openBlock` an opening at its end (Opened), and a program that writes no block's seconds or links leaves them.
-use mathlib.Core.Path.{_≡_, refl, sym, _∙_, subst}
+-- The links, records, directory and standing bits that a cursor and a memory hold, and what the parts of a change do to them: `unlink` is a leaving of the
+-- row (Unlinked), `openBlock` an opening at its end (Opened) with a block that has no record, and records are ended and placed.
+use mathlib.Core.Path.{_≡_, refl, sym, _∙_, subst, ap}
 use mathlib.Core.Bool.{Bool, true, false, cond}
+use mathlib.Core.Logic.{_≢_}
 use Prim.Native.Nat.{ℕ, _+_, _≤_}
 use native.Mathlib.Omega.{arith}
 use lib.Dec.{eqb}
@@ -11,13 +12,15 @@ use Rattle.layout.specs.declared.head.Cursor.{Cursor}
 use Rattle.layout.specs.declared.address.Address.{Address}
 use Rattle.layout.specs.declared.address.Address.the-variants.{Head, Time, Dir, Field, Bits, Slot}
 use Rattle.layout.specs.Sizes.{OPEN}
-use Rattle.layout.specs.Fields.{openedWord, closedWord, upWord, leftWord, childWord, rightWord}
+use Rattle.layout.specs.Fields.{openedWord, closedWord, upWord, leftWord, childWord, rightWord, tagWord, readingWord, fromWord, toWord}
 use Rattle.layout.specs.Memory.{Memory}
-use Rattle.layout.specs.Program.{Prog, runOn}
-use Rattle.calls.specs.Placing.{enterTime, openBlock, unlink}
-use Rattle.theory.specs.Tree.{View}
-use Rattle.theory.specs.Row.{Put, Unlinked, Opened}
+use Rattle.layout.specs.Program.{runOn}
+use Rattle.layout.specs.declared.settings.Settings.{Settings}
+use Rattle.calls.specs.Placing.{enterTime, openBlock, unlink, placeOf, endRecord, putRecord}
+use Rattle.theory.specs.Row.{Put, Unlinked, Opened, View}
 use Rattle.theory.specs.RunLaws.{met, _then_, Only, framed}
+use Rattle.theory.specs.Records.{Records, endedAt, PutAt, Emptied}
+use Rattle.theory.specs.Marks.{Marks, PutBit, apart-false, bit-on, bit-out}
 
 -- block 0's word is z, the others' are g's
 abbrev pub withFirst : ℕ → (ℕ → ℕ) → ℕ → ℕ
@@ -85,31 +88,35 @@ unlink-effect c f x now some =
       child = put-later (c .child) (λ n. f (Field n childWord)) up x up1;
     })
 
--- ---- programs that write no second or link of a block
-abbrev pub linkless : Address → Bool
-linkless (Head j) = true
-linkless (Time l i) = true
-linkless (Dir t) = true
-linkless (Field n j) = false
-linkless (Bits n w) = true
-linkless (Slot n k i) = true
-
-pub view-kept : {A : Type 0} (child right : ℕ) (p : Prog A) (f : Memory) → Only linkless p
-    → viewOf child right ((runOn p f) .1) ≡ viewOf child right f
-view-kept child right p f o = λ i. record {
-  opened = λ n. framed linkless p f o (Field n openedWord) refl i;
-  closed = withFirst OPEN (λ n. framed linkless p f o (Field n closedWord) refl i);
-  up = λ n. framed linkless p f o (Field n upWord) refl i;
-  left = λ n. framed linkless p f o (Field n leftWord) refl i;
-  child = withFirst child (λ n. framed linkless p f o (Field n childWord) refl i);
-  right = withFirst right (λ n. framed linkless p f o (Field n rightWord) refl i);
-}
-
 -- ---- a block opens
 -- the times are written, and nothing else
 pub enter-only : (W : Address → Bool) → ((l i : ℕ) → W (Time l i) ≡ true) → (i now : ℕ) → Only W (enterTime i now)
 unfolding enterTime
 enter-only W h i now = met (h 0 i) then λ _. (met (h 1 _) then tt) then λ _. met (h 2 _) then tt
+
+abbrev isTime : Address → Bool
+isTime (Head j) = false
+isTime (Time l i) = true
+isTime (Dir t) = false
+isTime (Field n j) = false
+isTime (Bits n w) = false
+isTime (Slot n k i) = false
+
+pub enter-keeps : (i now : ℕ) (f : Memory) (a : Address) → isTime a ≡ false → (runOn (enterTime i now) f) .1 a ≡ f a
+enter-keeps i now f a e = framed isTime (enterTime i now) f (enter-only isTime (λ l i. refl) i now) a e
+
+-- so all seconds and links of blocks stay
+enter-view : (child right i now : ℕ) (f : Memory) → viewOf child right ((runOn (enterTime i now) f) .1) ≡ viewOf child right f
+enter-view child right i now f =
+    let same : (n j : ℕ) → (runOn (enterTime i now) f) .1 (Field n j) ≡ f (Field n j) = λ n j. enter-keeps i now f (Field n j) refl in
+    λ k. record {
+      opened = λ n. same n openedWord k;
+      closed = withFirst OPEN (λ n. same n closedWord k);
+      up = λ n. same n upWord k;
+      left = λ n. same n leftWord k;
+      child = withFirst child (λ n. same n childWord k);
+      right = withFirst right (λ n. same n rightWord k);
+    }
 
 pub open-effect : (c : Cursor) (f : Memory) (now : ℕ) → let z = runOn (openBlock c now) f in Opened (view c f) (view (z .0) (z .1)) (c .opened) now
 unfolding openBlock
@@ -118,7 +125,7 @@ open-effect c f now =
     let g = (runOn (enterTime N now) f) .1 in
     let some : 1 ≤ N + 1 = omega arith in
     subst (λ (v : View). Opened v (view ((runOn (openBlock c now) f) .0) ((runOn (openBlock c now) f) .1)) N now)
-    (view-kept (c .child) (c .right) (enterTime N now) f (enter-only linkless (λ l i. refl) N now))
+    (enter-view (c .child) (c .right) N now f)
     (cond-all (λ (z : Cursor × Memory). Opened (view c g) (view (z .0) (z .1)) N now) (eqb N 0)
     (λ e.
     let none = eqb-true N 0 e in
@@ -140,3 +147,77 @@ open-effect c f now =
       right = simp (e, eqb-same);
       rights = λ n l. simp (ne-eqb N n (omega arith), ne-eqb (N + 1) n (omega arith));
     }))
+
+-- ---- records, directory and bits
+abbrev pub recordsOf : Memory → Records
+recordsOf f n k = record { tag = f (Slot n k tagWord); reading = f (Slot n k readingWord); from = f (Slot n k fromWord); to = f (Slot n k toWord) }
+
+abbrev pub directoryOf : Memory → ℕ → ℕ
+directoryOf f tag = f (Dir tag)
+
+abbrev pub marksOf : Memory → Marks
+marksOf f n w = f (Bits n w)
+
+-- ---- a record ends
+pub end-records : (n k now : ℕ) (f : Memory) → PutAt (recordsOf f) (recordsOf ((runOn (endRecord n k now) f) .1)) n k (endedAt now (recordsOf f n k))
+unfolding endRecord
+end-records n k now f = record { here = simp eqb-same; other = λ m j d. simp (apart-false n k m j d) }
+
+pub end-marks : (n k now : ℕ) (f : Memory) → PutBit (marksOf f) (marksOf ((runOn (endRecord n k now) f) .1)) n k 0
+unfolding endRecord
+end-marks n k now f = bit-out (marksOf f) n k
+
+-- ---- a record is placed
+module _ (s : Settings) (c : Cursor) (now tag reading : ℕ) (f : Memory) where
+  pub put-records : PutAt (recordsOf f) (recordsOf ((runOn (putRecord s c now tag reading) f) .1)) (c .opened) (c .fill)
+      (record { tag = tag; reading = reading; from = now; to = OPEN })
+  unfolding putRecord
+  put-records = record { here = simp eqb-same; other = λ m j d. simp (apart-false (c .opened) (c .fill) m j d) }
+
+  pub put-directory : Put (directoryOf f) (directoryOf ((runOn (putRecord s c now tag reading) f) .1)) tag (placeOf s (c .opened) (c .fill))
+  unfolding putRecord
+  put-directory = put-is (directoryOf f) tag (placeOf s (c .opened) (c .fill))
+
+  pub put-marks : PutBit (marksOf f) (marksOf ((runOn (putRecord s c now tag reading) f) .1)) (c .opened) (c .fill) 1
+  unfolding putRecord
+  put-marks = bit-on (marksOf f) (c .opened) (c .fill)
+
+-- ---- a block opens
+module _ (c : Cursor) (now : ℕ) (f : Memory) where
+  open-slot : (m k i : ℕ) → (runOn (openBlock c now) f) .1 (Slot m k i) ≡ cond (eqb (c .opened + 1) m) 0 (f (Slot m k i))
+  unfolding openBlock
+  open-slot m k i =
+      let e = ap (λ (x : ℕ). cond (eqb (c .opened + 1) m) 0 x) (enter-keeps (c .opened) now f (Slot m k i) refl) in
+      cond-all (λ (z : Cursor × Memory). z .1 (Slot m k i) ≡ cond (eqb (c .opened + 1) m) 0 (f (Slot m k i))) (eqb (c .opened) 0) (λ t. e) (λ t. e)
+
+  open-bits : (m w : ℕ) → (runOn (openBlock c now) f) .1 (Bits m w) ≡ cond (eqb (c .opened + 1) m) 0 (f (Bits m w))
+  unfolding openBlock
+  open-bits m w =
+      let e = ap (λ (x : ℕ). cond (eqb (c .opened + 1) m) 0 x) (enter-keeps (c .opened) now f (Bits m w) refl) in
+      cond-all (λ (z : Cursor × Memory). z .1 (Bits m w) ≡ cond (eqb (c .opened + 1) m) 0 (f (Bits m w))) (eqb (c .opened) 0) (λ t. e) (λ t. e)
+
+  pub open-directory : (tag : ℕ) → directoryOf ((runOn (openBlock c now) f) .1) tag ≡ directoryOf f tag
+  unfolding openBlock
+  open-directory tag =
+      let e = enter-keeps (c .opened) now f (Dir tag) refl in
+      cond-all (λ (z : Cursor × Memory). z .1 (Dir tag) ≡ f (Dir tag)) (eqb (c .opened) 0) (λ t. e) (λ t. e)
+
+  pub open-marks-here : (w : ℕ) → marksOf ((runOn (openBlock c now) f) .1) (c .opened + 1) w ≡ 0
+  open-marks-here w = open-bits (c .opened + 1) w ∙ simp eqb-same
+
+  pub open-marks-other : (m w : ℕ) → m ≢ c .opened + 1 → marksOf ((runOn (openBlock c now) f) .1) m w ≡ marksOf f m w
+  open-marks-other m w d = open-bits m w ∙ simp (ne-eqb (c .opened + 1) m (λ z. d (sym z)))
+
+  pub open-records : Emptied (recordsOf f) (recordsOf ((runOn (openBlock c now) f) .1)) (c .opened + 1)
+  open-records = record {
+    here = λ k. open-slot (c .opened + 1) k toWord ∙ simp eqb-same;
+    other = λ m k d. λ i. record {
+      tag = word m k tagWord d i;
+      reading = word m k readingWord d i;
+      from = word m k fromWord d i;
+      to = word m k toWord d i;
+    };
+  }
+    where
+      word : (m k j : ℕ) → m ≢ c .opened + 1 → (runOn (openBlock c now) f) .1 (Slot m k j) ≡ f (Slot m k j)
+      word m k j d = open-slot m k j ∙ simp (ne-eqb (c .opened + 1) m (λ z. d (sym z)))

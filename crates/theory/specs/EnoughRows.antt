@@ -4,11 +4,10 @@ use native.Mathlib.Omega.{arith}
 use native.Mathlib.Numerals.{add-one}
 use lib.ListN.{length}
 use Rattle.base.specs.Sums.{total, totals, total-length, upto, upto-suc}
-use Rattle.theory.specs.Tree.{View}
+use Rattle.theory.specs.Row.{View}
 use Rattle.theory.specs.Records.{Records, Stands, Kept}
-use Rattle.theory.specs.Useful.{AtLeast, enough, another}
-use Rattle.theory.specs.SumLaws.{upto-grows}
-use Rattle.theory.specs.Joined.{total-joined}
+use Rattle.theory.specs.Moving.{AtLeast, enough, another}
+use Rattle.theory.specs.MemberLaws.{upto-grows, total-joined}
 use Rattle.theory.specs.RecordRows.{standingRow, standingRows, standing-row}
 
 -- If all that have p are below b and weigh 1 or more, the weights from lo on, below b, are at least as many.

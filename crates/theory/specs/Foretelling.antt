@@ -21,11 +21,11 @@ use Rattle.layout.specs.Memory.{Memory, put}
 use Rattle.layout.specs.Program.{runOn}
 use Rattle.layout.specs.Cursor.{storeCursor}
 use Rattle.layout.specs.HeadLaws.{SoundHead}
-use Rattle.layout.specs.Standing.{slots, lowered}
+use Rattle.layout.specs.Standing.{slots, lowered, blockBits}
 use Rattle.calls.specs.Placing.{slotOf, endRecord, standing, putRecord, roll, makeRoom, place, replace, unlink, close, judge, clearTag, finish, setProgram, clearProgram, updateProgram, advanceProgram}
 use Rattle.calls.specs.Refusals.{opens, takenUp, acceptorCloses, tagBlock, remaining, closes, copies, afterClear, unsoundClear}
 use Rattle.calls.specs.Claims.{Foretold, setCloses, incomingClear, clearCloses}
-use Rattle.safety.specs.Sound.{bitsIn, bit-lowered, bit-elsewhere}
+use Rattle.safety.specs.Sound.{bit-lowered, bit-elsewhere}
 use Rattle.safety.specs.TestLaws.{lies, fewer, copies-few}
 use Rattle.theory.specs.RunLaws.{each-walk}
 use Rattle.theory.specs.Closed.{closedOf, tooFew, unlink-shuts, open-grows, Along, before, after, place-along, replace-along}
@@ -109,7 +109,7 @@ module _ (h : Head) (sound : SoundHead h) where
         (λ d.
         let low : 1 ≤ N = omega arith in
         let z = runOn (place s (h .cursor) now tag reading) f in
-        tracked-foretold (λ n. false) (bitsIn f N) 1 (z .0) (z .1) low
+        tracked-foretold (λ n. false) (blockBits f N) 1 (z .0) (z .1) low
         (place-along (sound .within) low {m = 0} (h .cursor) f tag reading (sound .within .some)
         (before (record { opened = refl; fill = refl; fits = sound .fill; bits = refl; closed = λ n. refl }))))
 
@@ -143,22 +143,22 @@ module _ (h : Head) (sound : SoundHead h) where
       unfolding endRecord
       ended-closed m = refl
 
-      ended-here : bitsIn ended n ≡ lowered (bitsIn f n) k
+      ended-here : blockBits ended n ≡ lowered (blockBits f n) k
       unfolding endRecord
       ended-here = bit-lowered f n k slot-low
 
-      ended-other : (m : ℕ) → m ≢ n → bitsIn ended m ≡ bitsIn f m
+      ended-other : (m : ℕ) → m ≢ n → blockBits ended m ≡ blockBits f m
       unfolding endRecord
       ended-other m e = bit-elsewhere withoutBit f n k m e
 
       -- the acceptor's bits are those that the test looks at
-      ended-last : bitsIn ended N ≡ afterClear h f tag
+      ended-last : blockBits ended N ≡ afterClear h f tag
       ended-last = is? n N
-          (λ e. simp (eq-eqb n N e) (subst (λ (m : ℕ). bitsIn ended m ≡ lowered (bitsIn f m) k) e ended-here))
+          (λ e. simp (eq-eqb n N e) (subst (λ (m : ℕ). blockBits ended m ≡ lowered (blockBits f m) k) e ended-here))
           (λ e. simp (ne-eqb n N e) (ended-other N (λ w. e (sym w))))
 
       -- whether its block closes
-      few-left : tooFew s (bitsIn ended n) ≡ ltb (remaining h f n) (s .useful)
+      few-left : tooFew s (blockBits ended n) ≡ ltb (remaining h f n) (s .useful)
       few-left = ap (tooFew s) ended-here ∙ ap (λ (m : ℕ). ltb m (s .useful)) (fewer h sound f tag d more bad)
 
       abbrev Cleared : ℕ → Cursor → Memory → Type 0
@@ -184,11 +184,11 @@ module _ (h : Head) (sound : SoundHead h) where
           let next : length (j ∷ l) + more ≡ length l + more + 1 = omega arith in
           (omega (arith, p .0), replace-along (sound .within) low c g n j inner (omega (arith, p .0)) (subst (λ (m : ℕ). Cleared m c g) next (p .1)))
 
-      closes-now : n ≢ N → remaining h f n < s .useful → let z = runOn (close s (h .cursor) n now (slots (bitsIn ended n))) ended in Cleared more (z .0) (z .1)
+      closes-now : n ≢ N → remaining h f n < s .useful → let z = runOn (close s (h .cursor) n now (slots (blockBits ended n))) ended in Cleared more (z .0) (z .1)
       unfolding close
       closes-now apart few =
           let inner : n < N = omega (arith, lies h sound f tag d more bad .high) in
-          let l = slots (bitsIn ended n) in
+          let l = slots (blockBits ended n) in
           let u = runOn (unlink (h .cursor) n now) ended in
           let w = unlink-shuts (h .cursor) n now ended in
           let c : closes h f n ≡ true = simp (ne-eqb n N apart, lt-ltb (remaining h f n) (s .useful) few) in
@@ -214,7 +214,7 @@ module _ (h : Head) (sound : SoundHead h) where
       judged : n ≢ N → let z = runOn (judge s (h .cursor) n now) ended in Cleared more (z .0) (z .1)
       unfolding judge standing
       judged apart =
-          cond-all (λ (z : Cursor × Memory). Cleared more (z .0) (z .1)) (tooFew s (bitsIn ended n))
+          cond-all (λ (z : Cursor × Memory). Cleared more (z .0) (z .1)) (tooFew s (blockBits ended n))
           (λ t. closes-now apart (ltb-true (remaining h f n) (s .useful) (sym few-left ∙ t)))
           (λ t. stays (simp (ne-eqb n N apart, sym few-left ∙ t)))
 

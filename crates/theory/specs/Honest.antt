@@ -4,7 +4,6 @@ use mathlib.Core.List.{List}
 use Prim.Native.Nat.{ℕ, _+_, _*_, _-_, _≤_, _<_}
 use native.Mathlib.Omega.{arith}
 use lib.ListN.{length}
-use Rattle.layout.specs.declared.settings.Settings.{Settings}
 use Rattle.layout.specs.declared.head.Cursor.{Cursor}
 use Rattle.layout.specs.declared.head.Head.{Head}
 use Rattle.layout.specs.declared.address.Address.{Address}
@@ -15,6 +14,8 @@ use Rattle.layout.specs.Address.{Valid, Numbered}
 use Rattle.layout.specs.Memory.{Memory}
 use Rattle.layout.specs.Head.{headOf, placed}
 use Rattle.layout.specs.OnWords.{over}
+use Rattle.layout.specs.Interp.{Same}
+use Rattle.layout.specs.HeadLaws.{SoundHead}
 use Rattle.calls.specs.LookBack.{reader}
 use Rattle.calls.specs.Step.{wordsRead}
 use Rattle.calls.specs.Book.{recordsIn}
@@ -22,9 +23,7 @@ use Rattle.calls.specs.History.{Account}
 use Rattle.calls.specs.Claims.{Agrees}
 use Rattle.theory.specs.Effects.{view}
 use Rattle.theory.specs.LogLaws.{Once, readings}
-use Rattle.theory.specs.Copies.{headWith}
-use Rattle.theory.specs.Rest.{Rest}
-use Rattle.theory.specs.BookCalls.{Booked, booked-block, booked-useful, booked-length, booked-opened, booked-closed, booked-records}
+use Rattle.theory.specs.Rest.{Rest, headWith, Booked, booked-block, booked-useful, booked-length, booked-opened, booked-closed, booked-records}
 use Rattle.theory.specs.Counting.{Counted, counted-bound}
 use Rattle.theory.specs.SoFar.{Timed}
 use Rattle.theory.specs.Stored.{Stored, stored-at}
@@ -46,27 +45,21 @@ pub record Honest (ws : List ℕ) (a : Account) : Type 0 where
   pub counted : Counted (a .sets) (a .book)
 
 module _ {ws : List ℕ} {a : Account} (i : Honest ws a) where
-  abbrev s : Settings
-  s = a .settings
-
-  abbrev c : Cursor
-  c = i .cursor
-
-  abbrev f : Memory
-  f = i .memory
-
-  pub head-is : headOf ws ≡ headWith s c
+  pub head-is : headOf ws ≡ headWith (a .settings) (i .cursor)
   head-is = sym (i .stored .read .is)
 
   -- a word that the calls read
-  pub word-is : (x : Address) → Valid s x → wordsRead ws x ≡ f x
+  pub word-is : (x : Address) → Valid (a .settings) x → wordsRead ws x ≡ i .memory x
   word-is x v = ap (λ (h : Head). over (h .settings) .read ws x) head-is ∙ stored-at (i .stored) x v
 
-  block-numbered : (n : ℕ) → 1 ≤ n → n ≤ c .opened → Numbered s n
-  block-numbered n l h = record { low = l; high = omega (arith, i .rest .limit) }
+  pub words-same : Same (wordsRead ws) (Valid (a .settings)) (i .memory)
+  words-same = record { at = word-is }
 
-  blocks-long : length (a .book .blocks) ≡ c .opened
-  blocks-long = booked-length (i .booked)
+  pub head-sound : SoundHead (headWith (a .settings) (i .cursor))
+  head-sound = i .stored .read .sound
+
+  pub block-numbered : (n : ℕ) → 1 ≤ n → n ≤ i .cursor .opened → Numbered (a .settings) n
+  block-numbered n l h = record { low = l; high = omega (arith, i .rest .limit) }
 
   -- ---- the store agrees with the book
   placed-is : placed (headOf ws) ≡ recordsIn (a .book .blocks)
@@ -76,13 +69,13 @@ module _ {ws : List ℕ} {a : Account} (i : Honest ws a) where
   agrees = record {
     block = rw head-is (booked-block (i .booked));
     useful = rw head-is (booked-useful (i .booked));
-    blocks = rw head-is (sym blocks-long);
+    blocks = rw head-is (sym (booked-length (i .booked)));
     opened = λ n l.
-        word-is (Field (n + 1) openedWord) (block-numbered (n + 1) (omega arith) (omega (arith, blocks-long)), omega arith)
-        ∙ booked-opened (i .booked) n (omega (arith, blocks-long));
+        word-is (Field (n + 1) openedWord) (block-numbered (n + 1) (omega arith) (omega (arith, booked-length (i .booked))), omega arith)
+        ∙ booked-opened (i .booked) n (omega (arith, booked-length (i .booked)));
     closed = λ n l.
-        word-is (Field (n + 1) closedWord) (block-numbered (n + 1) (omega arith) (omega (arith, blocks-long)), omega arith)
-        ∙ booked-closed (i .booked) n (omega (arith, blocks-long));
+        word-is (Field (n + 1) closedWord) (block-numbered (n + 1) (omega arith) (omega (arith, booked-length (i .booked))), omega arith)
+        ∙ booked-closed (i .booked) n (omega (arith, booked-length (i .booked)));
     records = placed-is;
   }
 
@@ -94,5 +87,5 @@ module _ {ws : List ℕ} {a : Account} (i : Honest ws a) where
 
   -- ---- the words answer look-backs
   pub sound : (t : ℕ) → t < OPEN
-      → LookSound (headOf ws .settings .block) (headOf ws .settings .tags) (headOf ws .cursor .opened) t (reader ws) (view c f)
+      → LookSound (headOf ws .settings .block) (headOf ws .settings .tags) (headOf ws .cursor .opened) t (reader ws) (view (i .cursor) (i .memory))
   sound t o = rw head-is (look-ready (i .stored) (i .rest .full .state) t o)

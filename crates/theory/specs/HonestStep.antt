@@ -18,71 +18,45 @@ use Rattle.layout.specs.Address.{Valid}
 use Rattle.layout.specs.Interp.{Same}
 use Rattle.layout.specs.Memory.{Memory}
 use Rattle.layout.specs.SettingsLaws.{limits-within}
-use Rattle.layout.specs.Head.{headOf, withHead, cleared}
-use Rattle.layout.specs.HeadLaws.{SoundHead}
+use Rattle.layout.specs.Head.{headOf, withHead, cleared, freshHead}
 use Rattle.layout.specs.Program.{Prog, run, runOn}
-use Rattle.layout.specs.ProgramLaws.{Safe}
 use Rattle.layout.specs.OnWords.{over}
+use Rattle.layout.specs.OverLaws.{over-safe}
 use Rattle.calls.specs.Calls.{Call, Start, Set, Clear, Update, Advance, Ask, Answer, Done, Shown, Refused, accepted}
 use Rattle.calls.specs.Placing.{setProgram, clearProgram, updateProgram, advanceProgram}
 use Rattle.calls.specs.Refusals.{Test, timeTests, setOwn, clearOwn, tagBlock, copies, blocksOut}
-use Rattle.calls.specs.Step.{step, testsOf, start, set, clear, update, advance, wordsRead, freshHead}
+use Rattle.calls.specs.Step.{step, testsOf, change, start, set, clear, update, advance, wordsRead}
 use Rattle.calls.specs.Book.{Book}
 use Rattle.calls.specs.Log.{Log}
 use Rattle.calls.specs.History.{Account, opening, enters}
 use Rattle.calls.specs.Claims.{EveryCall}
-use Rattle.safety.specs.CallSafe.{advance-goes, set-goes, clear-call-goes, update-goes, advance-over, set-over, clear-over, update-over}
-use Rattle.theory.specs.Reading.{none, some}
-use Rattle.theory.specs.Timeline.{Timeline, told-alike}
-use Rattle.theory.specs.State.{free}
+use Rattle.safety.specs.Goes.{Goes}
+use Rattle.safety.specs.CallSafe.{Next, next-head, advance-goes, set-goes, clear-call-goes, update-goes}
+use Rattle.theory.specs.Timeline.{Timeline, told-alike, none}
+use Rattle.theory.specs.State.{free as not-there, state-as}
 use Rattle.theory.specs.LogLaws.{Once, readings, once-empty, once-set, once-clear, once-update, readings-set, readings-clear, readings-update}
 use Rattle.theory.specs.SoFar.{Timed, timed-none, timed-later, timed-more}
-use Rattle.theory.specs.Copies.{headWith}
-use Rattle.theory.specs.Rest.{Rest, rest-fresh, rest-advance, rest-set, rest-clear, rest-update}
-use Rattle.theory.specs.Fresh.{freshMemory, fresh-blank}
+use Rattle.theory.specs.Rest.{Rest, rest-fresh, headWith, booked-fresh, After, after-advance, after-set, after-clear, after-update}
+use Rattle.theory.specs.Fresh.{freshMemory, started}
 use Rattle.theory.specs.Sound.{set-sound, clear-sound, same-copies}
-use Rattle.theory.specs.BookCalls.{Booked, booked-fresh, booked-advance, booked-set, booked-clear, booked-update}
 use Rattle.theory.specs.Counting.{Counted, counted-empty, counted-set, counted-clear, counted-update}
-use Rattle.theory.specs.HeadKept.{HeadMoved, set-head, clear-head, update-head, advance-head, set-clock, clear-clock, update-clock, advance-clock}
-use Rattle.theory.specs.Stored.{stored-run}
-use Rattle.theory.specs.Started.{started}
+use Rattle.theory.specs.Stored.{stored-run, HeadMoved, set-head, clear-head, update-head, advance-head}
 use Rattle.theory.specs.TestLaws.{refusal-none}
 use Rattle.theory.specs.EveryLookBack.{every-call}
-use Rattle.theory.specs.Honest.{Honest, head-is, word-is}
+use Rattle.theory.specs.Honest.{Honest, head-is, word-is, words-same, head-sound}
 
 -- ---- a log that says the same of every second
 rest-alike : {s : Settings} {l l′ : Timeline} {c : Cursor} {f : Memory} → ((t g : ℕ) → t < OPEN → l t g ≡ l′ t g) → Rest s l c f → Rest s l′ c f
-rest-alike h i = record {
-  full = record {
-    state = record {
-      past = i .full .state .past;
-      links = i .full .state .links;
-      index = i .full .state .index;
-      kept = i .full .state .kept;
-      marked = i .full .state .marked;
-      found = i .full .state .found;
-      told = told-alike h (i .full .state .told);
-      calm = i .full .state .calm;
-    };
-    useful = i .full .useful;
-    within = i .full .within;
-    fits = i .full .fits;
-  };
-  limit = i .limit;
-  begun = i .begun;
-  empty = i .empty;
-}
-
--- the head of a register at rest passes
-rest-sound : {s : Settings} {log : Timeline} {c : Cursor} {f : Memory} → Rest s log c f → SoundHead (headWith s c)
-rest-sound i = record {
-  within = i .full .within;
-  opened = i .limit;
-  clock = i .full .state .past;
-  fill = i .full .fits;
-  none = i .empty;
-  some = i .begun;
-}
+rest-alike h i =
+    let r = i .full in
+    let st = r .state in
+    let told = state-as st (omega arith) (st .past) (told-alike h (st .told)) (st .calm) in
+    record {
+      full = record { state = told; useful = r .useful; within = r .within; fits = r .fits };
+      limit = i .limit;
+      begun = i .begun;
+      empty = i .empty;
+    }
 
 module _ {ws : List ℕ} {a : Account} (i : Honest ws a) where
   abbrev s : Settings
@@ -94,74 +68,59 @@ module _ {ws : List ℕ} {a : Account} (i : Honest ws a) where
   abbrev f : Memory
   f = i .memory
 
-  -- a tag that the directory does not have stands at no second from the clock on
-  free-log : (tag : ℕ) → f (Dir tag) ≡ 0 → (t : ℕ) → c .clock ≤ t → t < OPEN → readings (a .log) t tag ≡ none
-  free-log tag e t l o = free (i .rest .full .state) tag e t l o
-
-  -- what an accepted program's run leaves, where clock, log and book follow
-  ran : {now : ℕ} {book : Book} {l : Log} {sets : ℕ} {log : Timeline} (p : Prog Cursor) → Safe (over s) p f
-      → HeadMoved ((runOn p f) .0) f ((runOn p f) .1) → (runOn p f) .0 .clock ≡ now → Rest s log ((runOn p f) .0) ((runOn p f) .1)
-      → ((t g : ℕ) → t < OPEN → log t g ≡ readings l t g) → Once l → Timed now l → Booked s book ((runOn p f) .0) ((runOn p f) .1) → Counted sets book
-      → Honest ((run (over s) p ws) .1) (record { settings = s; clock = now; book = book; log = l; sets = sets })
-  ran p safe moved clock kept alike once timed booked counted =
-      let rest = rest-alike alike kept in
-      record {
-        cursor = (runOn p f) .0;
-        memory = (runOn p f) .1;
-        stored = stored-run p (i .stored) safe moved (rest-sound rest) .store;
-        clock = clock;
+  -- what an accepted change leaves, where clock, log and book follow
+  ran : {now : ℕ} {book : Book} {l : Log} {sets : ℕ} {log : Timeline} {tests : List Test} (p : Settings → Cursor → Prog Cursor)
+      → let z = runOn (p s c) f in All (λ y. y .applies ≡ false) tests → Goes s (p s c) f (λ d g. Next s now d) → HeadMoved (z .0) f (z .1)
+      → After s now log book (z .0) (z .1) → ((t g : ℕ) → t < OPEN → log t g ≡ readings l t g) → Once l → Timed now l → Counted sets book
+      → Honest (change tests ws (p (headOf ws .settings) (headOf ws .cursor)) .store) (record { settings = s; clock = now; book = book; log = l; sets = sets })
+  ran {now} {book} {l} {sets} {tests = tests} p free goes moved made alike once timed counted =
+      let next = goes .leaves in
+      let rest = rest-alike alike (made .rest next) in
+      let after : change tests ws (p (headOf ws .settings) (headOf ws .cursor)) .store ≡ (run (over s) (p s c) ws) .1 =
+      rw (refusal-none free) (ap (λ (h : Head). (run (over (h .settings)) (p (h .settings) (h .cursor)) ws) .1) (head-is i)) in
+      subst (λ (us : List ℕ). Honest us (record { settings = s; clock = now; book = book; log = l; sets = sets })) (sym after) (record {
+        cursor = (runOn (p s c) f) .0;
+        memory = (runOn (p s c) f) .1;
+        stored = stored-run (p s c) (i .stored) (over-safe s (p s c) f (goes .safe)) moved
+            (next-head (i .rest .full .within) (omega (arith, next .clock, rest .full .state .past)) next) .store;
+        clock = next .clock;
         rest = rest;
         once = once;
         timed = timed;
-        booked = booked;
+        booked = made .booked;
         counted = counted;
-      }
-
-  -- what was logged by the clock was logged by then
-  timed-by : {now : ℕ} → c .clock ≤ now → a .clock ≤ now
-  timed-by h = omega (arith, i .clock)
+      })
 
   -- ---- what the tests that do not apply say
   abbrev Passed : Call → Type 0
   Passed x = All (λ y. y .applies ≡ false) (testsOf ws x)
 
-  clock-is : headOf ws .cursor .clock ≡ c .clock
-  clock-is = ap (λ (h : Head). h .cursor .clock) (head-is i)
-
   tags-are : headOf ws .settings .tags ≡ s .tags
   tags-are = ap (λ (h : Head). h .settings .tags) (head-is i)
 
-  -- the words that the tests read
-  same : Same (wordsRead ws) (Valid s) f
-  same = record { at = word-is i }
-
-  -- and the memory's own
+  -- the memory's own words
   itself : Same f (Valid s) f
   itself = record { at = λ x v. refl }
-
-  head-sound : SoundHead (headWith s c)
-  head-sound = i .stored .read .sound
 
   -- a change at now
   record Timely (now : ℕ) : Type 0 where
     later : c .clock ≤ now
+    since : a .clock ≤ now
     ends : now < OPEN
 
   timely : (now : ℕ) {l : List Test} → All (λ y. y .applies ≡ false) (timeTests ws now l) → Timely now × All (λ y. y .applies ≡ false) l
   timely now (cons x₂ (cons x₃ (cons x₄ (cons x₅ (cons x₆ r))))) =
-      (record { later = omega (arith, ltb-false now (headOf ws .cursor .clock) x₆, clock-is); ends = leb-false OPEN now x₅ }, r)
+      let early = ltb-false now (headOf ws .cursor .clock) x₆ in
+      let is = ap (λ (h : Head). h .cursor .clock) (head-is i) in
+      (record { later = omega (arith, early, is); since = omega (arith, early, is, i .clock); ends = leb-false OPEN now x₅ }, r)
 
   -- ---- a clock move
   honest-advance : (now : ℕ) → Passed (Advance now) → Honest (step ws (Advance now) .store) (enters a (Advance now))
   unfolding advance
   honest-advance now p =
       let k = timely now p .0 in
-      let after : step ws (Advance now) .store ≡ (run (over s) (advanceProgram s c now) ws) .1 =
-      rw (refusal-none p) (ap (λ (h : Head). (run (over (h .settings)) (advanceProgram (h .settings) (h .cursor) now) ws) .1) (head-is i)) in
-      subst (λ (us : List ℕ). Honest us (enters a (Advance now))) (sym after)
-      (ran (advanceProgram s c now) (advance-over head-sound f now) (advance-head s c now f) (advance-clock s c now f)
-      (rest-advance c f (i .rest) now (k .later) (k .ends) (advance-goes head-sound f now .leaves)) (λ t g o. refl) (i .once) (timed-later (timed-by (k .later)) (i .timed))
-      (booked-advance c f (i .rest) (i .booked) now (k .later) (k .ends)) (i .counted))
+      ran (λ s c. advanceProgram s c now) p (advance-goes (head-sound i) f now) (advance-head s c now f) (after-advance (i .rest) (i .booked) now (k .later) (k .ends))
+      (λ t g o. refl) (i .once) (timed-later (k .since) (i .timed)) (i .counted)
 
   -- ---- a set
   honest-set : (now tag reading : ℕ) → Passed (Set now tag reading) → Honest (step ws (Set now tag reading) .store) (enters a (Set now tag reading))
@@ -174,16 +133,11 @@ module _ {ws : List ℕ} {a : Account} (i : Honest ws a) where
           let free : f (Dir tag) ≡ 0 = sym (word-is i (Dir tag) known) ∙ eqb-true (wordsRead ws (Dir tag)) 0 (not-false _ x₉) in
           let left : blocksOut (headWith s c) 1 ≡ false = ap (λ (h : Head). blocksOut h 1) (sym (head-is i)) ∙ x₁₃ in
           let sound = set-sound c f (i .rest) f itself in
-          let z = rest-set c f (i .rest) now (k .later) (k .ends) tag reading known free (set-goes head-sound f now tag known reading sound left .leaves) in
-          let absent : (t : ℕ) → now ≤ t → t < OPEN → readings (a .log) t tag ≡ none = λ t l o. free-log tag free t (omega (arith, k .later)) o in
-          let after : step ws (Set now tag reading) .store ≡ (run (over s) (setProgram s c now tag reading) ws) .1 =
-          rw (refusal-none p) (ap (λ (h : Head). (run (over (h .settings)) (setProgram (h .settings) (h .cursor) now tag reading) ws) .1) (head-is i)) in
-          subst (λ (us : List ℕ). Honest us (enters a (Set now tag reading))) (sym after)
-          (ran (setProgram s c now tag reading) (set-over head-sound f now tag known reading sound left) (set-head s c now f tag reading)
-          (set-clock s c now f tag reading) z (λ t g o. sym (readings-set (a .log) now tag reading t g (λ l. absent t l o)))
-          (once-set now tag (i .once) reading absent) (timed-more (Set now tag reading) (timed-by (k .later)) (omega arith) (i .timed))
-          (booked-set c f (i .rest) (i .booked) now (k .later) (k .ends) tag reading)
-          (counted-set now tag (omega (arith, k .ends)) (i .counted)))
+          let absent : (t : ℕ) → now ≤ t → t < OPEN → readings (a .log) t tag ≡ none = λ t l o. not-there (i .rest .full .state) tag free t (omega (arith, k .later)) o in
+          ran (λ s c. setProgram s c now tag reading) p (set-goes (head-sound i) f now tag known reading sound left) (set-head s c now f tag reading)
+          (after-set (i .rest) (i .booked) now (k .later) (k .ends) tag reading known free)
+          (λ t g o. sym (readings-set (a .log) now tag reading t g (λ l. absent t l o))) (once-set now tag (i .once) reading absent)
+          (timed-more (Set now tag reading) (k .since) (omega arith) (i .timed)) (counted-set now tag (omega (arith, k .ends)) (i .counted))
 
   -- ---- a clear, and a new reading
   -- what their own tests say
@@ -196,7 +150,7 @@ module _ {ws : List ℕ} {a : Account} (i : Honest ws a) where
   found more tag (cons x₈ (cons x₁₀ (cons x₁₂ (cons x₁₃ nil)))) =
       let known : tag < s .tags = omega (arith, leb-false (headOf ws .settings .tags) tag x₈, tags-are) in
       let stands : f (Dir tag) ≢ 0 = λ e. eqb-false (wordsRead ws (Dir tag)) 0 x₁₀ (word-is i (Dir tag) known ∙ e) in
-      let moved = same-copies c f (i .rest) (wordsRead ws) same tag known stands in
+      let moved = same-copies c f (i .rest) (wordsRead ws) (words-same i) tag known stands in
       record {
         known = known;
         stands = stands;
@@ -211,15 +165,9 @@ module _ {ws : List ℕ} {a : Account} (i : Honest ws a) where
       let k = q .0 in
       let w = found 0 tag (q .1) in
       let sound = clear-sound c f (i .rest) f itself tag (w .known) (w .stands) 0 in
-      let z = rest-clear c f (i .rest) now (k .later) (k .ends) tag (w .stands) (clear-call-goes head-sound f now tag (w .known) (w .stands) sound (w .left) .leaves) in
-      let after : step ws (Clear now tag) .store ≡ (run (over s) (clearProgram s c now tag) ws) .1 =
-      rw (refusal-none p) (ap (λ (h : Head). (run (over (h .settings)) (clearProgram (h .settings) (h .cursor) now tag) ws) .1) (head-is i)) in
-      subst (λ (us : List ℕ). Honest us (enters a (Clear now tag))) (sym after)
-      (ran (clearProgram s c now tag) (clear-over head-sound f now tag (w .known) (w .stands) sound (w .left)) (clear-head s c now f tag)
-      (clear-clock s c now f tag) z (λ t g o. sym (readings-clear (a .log) now tag t g))
-      (once-clear now tag (i .once)) (timed-more (Clear now tag) (timed-by (k .later)) (omega arith) (i .timed))
-      (booked-clear c f (i .rest) (i .booked) now (k .later) (k .ends) tag (w .stands))
-      (counted-clear now tag (omega (arith, k .ends)) (i .counted)))
+      ran (λ s c. clearProgram s c now tag) p (clear-call-goes (head-sound i) f now tag (w .known) (w .stands) sound (w .left)) (clear-head s c now f tag)
+      (after-clear (i .rest) (i .booked) now (k .later) (k .ends) tag (w .stands)) (λ t g o. sym (readings-clear (a .log) now tag t g)) (once-clear now tag (i .once))
+      (timed-more (Clear now tag) (k .since) (omega arith) (i .timed)) (counted-clear now tag (omega (arith, k .ends)) (i .counted))
 
   honest-update : (now tag reading : ℕ) → Passed (Update now tag reading) → Honest (step ws (Update now tag reading) .store) (enters a (Update now tag reading))
   unfolding update
@@ -228,16 +176,10 @@ module _ {ws : List ℕ} {a : Account} (i : Honest ws a) where
       let k = q .0 in
       let w = found 1 tag (q .1) in
       let sound = clear-sound c f (i .rest) f itself tag (w .known) (w .stands) 1 in
-      let z = rest-update c f (i .rest) now (k .later) (k .ends) tag (w .stands) reading (w .known)
-      (update-goes head-sound f now tag (w .known) (w .stands) reading sound (w .left) .leaves) in
-      let after : step ws (Update now tag reading) .store ≡ (run (over s) (updateProgram s c now tag reading) ws) .1 =
-      rw (refusal-none p) (ap (λ (h : Head). (run (over (h .settings)) (updateProgram (h .settings) (h .cursor) now tag reading) ws) .1) (head-is i)) in
-      subst (λ (us : List ℕ). Honest us (enters a (Update now tag reading))) (sym after)
-      (ran (updateProgram s c now tag reading) (update-over head-sound f now tag (w .known) (w .stands) reading sound (w .left)) (update-head s c now f tag reading)
-      (update-clock s c now f tag reading) z (λ t g o. sym (readings-update (a .log) now tag reading t g))
-      (once-update now tag (i .once) reading) (timed-more (Update now tag reading) (timed-by (k .later)) (omega arith) (i .timed))
-      (booked-update c f (i .rest) (i .booked) now (k .later) (k .ends) tag reading (w .stands))
-      (counted-update now tag (omega (arith, k .ends)) (i .counted)))
+      ran (λ s c. updateProgram s c now tag reading) p (update-goes (head-sound i) f now tag (w .known) (w .stands) reading sound (w .left))
+      (update-head s c now f tag reading) (after-update (i .rest) (i .booked) now (k .later) (k .ends) tag (w .stands) reading (w .known))
+      (λ t g o. sym (readings-update (a .log) now tag reading t g)) (once-update now tag (i .once) reading)
+      (timed-more (Update now tag reading) (k .since) (omega arith) (i .timed)) (counted-update now tag (omega (arith, k .ends)) (i .counted))
 
 -- ---- a start, on any words
 pub honest-start : (ws : List ℕ) (s : Settings) → All (λ y. y .applies ≡ false) (testsOf ws (Start s)) → Honest (step ws (Start s) .store) (opening s)
@@ -254,7 +196,7 @@ honest-start ws s p = go p
           memory = freshMemory s;
           stored = started s ws long w (ltb-false (length ws) headLen x₂);
           clock = refl;
-          rest = rest-fresh s (freshMemory s) w (fresh-blank s);
+          rest = rest-fresh s w;
           once = once-empty;
           timed = timed-none;
           booked = booked-fresh s (freshMemory s);

@@ -9,10 +9,7 @@ use lib.ListN.{length}
 use borrow.Author.Tests.{leb-false}
 use Rattle.base.specs.Sums.{All, cons}
 use Rattle.base.specs.SameRows.{Same, same-perm}
-use Rattle.layout.specs.declared.settings.Settings.{Settings}
-use Rattle.layout.specs.declared.head.Cursor.{Cursor}
 use Rattle.layout.specs.Sizes.{OPEN}
-use Rattle.layout.specs.Memory.{Memory}
 use Rattle.calls.specs.Calls.{Ask, LookBack, Row, View, Shown, accepted}
 use Rattle.calls.specs.LookBack.{reader}
 use Rattle.calls.specs.Step.{step, testsOf}
@@ -25,10 +22,9 @@ use Rattle.theory.specs.LogLaws.{row-discrete}
 use Rattle.theory.specs.MemberLaws.{unique-nodup}
 use Rattle.theory.specs.RecordRows.{rows-log}
 use Rattle.theory.specs.EnoughRows.{rows-enough}
-use Rattle.theory.specs.BookCalls.{booked-useful, booked-open-at}
-use Rattle.theory.specs.Right.{RightLook, blocksOpen}
+use Rattle.theory.specs.Rest.{booked-useful, booked-open-at}
+use Rattle.theory.specs.Right.{RightLook, blocksOpen, walk-right}
 use Rattle.theory.specs.ViewClaims.{view-claims}
-use Rattle.theory.specs.LookAnswers.{walk-right}
 use Rattle.theory.specs.EveryLookBack.{every-call}
 use Rattle.theory.specs.LookReady.{weigh-records, rows-are}
 use Rattle.theory.specs.Honest.{Honest, head-is, sound}
@@ -37,28 +33,19 @@ same-bound : {x y q r : ℕ} (n : ℕ) → x ≡ y → q ≡ r → x * q ≤ n +
 same-bound n e g h = rw (e, g) at h
 
 module _ {ws : List ℕ} {a : Account} (i : Honest ws a) (t : ℕ) where
-  abbrev s : Settings
-  s = a .settings
-
-  abbrev c : Cursor
-  c = i .cursor
-
-  abbrev f : Memory
-  f = i .memory
-
-  open-is : blocksOpen (c .opened) t (view c f) ≡ openAt t (a .book .blocks)
+  open-is : blocksOpen (i .cursor .opened) t (view (i .cursor) (i .memory)) ≡ openAt t (a .book .blocks)
   unfolding blocksOpen
   open-is = sym (booked-open-at (i .booked) t)
 
   -- what the walk found is right
-  module _ {r : List Row} {l : List ℕ} (w : RightLook (s .block) (c .opened) t (reader ws) (view c f) r l) (o : t < OPEN) where
+  module _ {r : List Row} {l : List ℕ} (w : RightLook (a .settings .block) (i .cursor .opened) t (reader ws) (view (i .cursor) (i .memory)) r l) (o : t < OPEN) where
     rows-same : Same r (stateAt (a .log) t)
     rows-same = record {
       sums = λ x. w .sum x ∙ weigh-records (i .stored) (i .rest .full .state) t x ∙ rows-log (i .rest .full .state .kept) t (i .once) (i .rest .full .state .told) o .sums x;
     }
 
     rows-useful : openAt t (a .book .blocks) * a .book .q ≤ length r + a .book .q
-    rows-useful = same-bound (length r) open-is (booked-useful (i .booked)) (w .dense (s .useful) (λ n l h x y.
+    rows-useful = same-bound (length r) open-is (booked-useful (i .booked)) (w .dense (a .settings .useful) (λ n l h x y.
         rw (rows-are (i .stored) (i .rest .full .state) t n l (omega arith))
         (rows-enough (i .rest .full .state .kept) (i .rest .full .useful .at t n l h x y o (λ e. absurd (omega arith))))))
 
@@ -70,7 +57,8 @@ module _ {ws : List ℕ} {a : Account} (i : Honest ws a) (t : ℕ) where
   answered rows list v e =
       let k = view-claims ws t rows list v e in
       let o = second rows list (every-call ws (Ask (LookBack t rows list)) .accepted-iff .0 (ap accepted e)) in
-      let w : RightLook (s .block) (c .opened) t (reader ws) (view c f) (v .rows) (v .list) = rw (head-is i) at (walk-right ws (sound i t o) (k .walk .1)) in
+      let w : RightLook (a .settings .block) (i .cursor .opened) t (reader ws) (view (i .cursor) (i .memory)) (v .rows) (v .list) =
+      rw (head-is i) at (walk-right ws (sound i t o) (k .walk .1)) in
       record {
         walk = k .walk;
         log = same-perm row-discrete (rows-same w o);

@@ -99,16 +99,3 @@ module _ {b q : ℕ} (s : ℕ) (fit : q ≤ b) where
   rule-layers {write} r tag blocks =
       let a : Appending b write = record { room = λ g l some less. r .is g l ∙ over-appends write b q s .room g l some less } in
       r .is tag blocks ∙ over-same a (writes-appends 1 b q s) tag blocks
-
--- writes that are the same judge the same: so a clear, too, has the same book with any number of layers
-order-same : (write other : Write) → ((tag : ℕ) (blocks : List Block) → write tag blocks ≡ other tag blocks) → (tags : List ℕ) (blocks : List Block)
-    → inOrder write tags blocks ≡ inOrder other tags blocks
-order-same write other h [] blocks = refl
-order-same write other h (tag ∷ tags) blocks = ap (inOrder write tags) (h tag blocks) ∙ order-same write other h tags (other tag blocks)
-
-pub judge-layers : (n b q s i : ℕ) (blocks : List Block) → q ≤ b
-    → judges (writes (suc n) b q s) q s i blocks ≡ judges (writes layers b q s) q s i blocks
-judge-layers n b q s i blocks fit =
-    let tags = standingTags (entriesOf i blocks) in
-    cond-rel (λ (x y : List Block). x ≡ y) {b = ltb (length tags) q} refl
-    (λ t. order-same (writes (suc n) b q s) (writes layers b q s) (write-layers s fit n) tags (onBlock i (closesAt s) blocks)) (λ t. refl)

@@ -1,24 +1,24 @@
--- The tree of closed blocks, the row of open ones, and what the parts of a change do to them
-pub mod Tree
+-- The trees of closed blocks, the row of open ones, the index, and runs of a program
 pub mod Row
 pub mod RunLaws
-pub mod Effects
 pub mod Times
--- Records, their log, the directory and the standing bits
-pub mod Reading
+-- Records, their directory and log, the standing bits, and what the parts of a change do to all of these
 pub mod Records
 pub mod Timeline
-pub mod Directory
 pub mod Marks
-pub mod PartEffects
--- The invariant, in the middle of a change and at rest
+pub mod Effects
+-- The invariant, in the middle of a change too
 pub mod State
 pub mod Moving
-pub mod Useful
+-- The block book, and the book that a store shows
+pub mod BookLaws
+pub mod Layers
+pub mod Counting
+pub mod BookOf
+pub mod BookParts
+-- The changes, and the register at rest
 pub mod Rolling
 pub mod Changing
-pub mod Fresh
-pub mod Copies
 pub mod Rest
 -- The closed words along a change, on any memory
 pub mod Closed
@@ -26,47 +26,25 @@ pub mod Foretelling
 -- Refusal 12 has no case on a register at rest
 pub mod Sound
 -- The plain log
-pub mod SumLaws
 pub mod MemberLaws
-pub mod Joined
 pub mod LogLaws
 pub mod SoFar
 pub mod RecordRows
 pub mod EnoughRows
--- The block book
-pub mod BookLaws
-pub mod BookTable
-pub mod Layers
-pub mod Counting
-pub mod BookOf
-pub mod BookReads
-pub mod BookRoll
-pub mod BookChange
-pub mod BookCalls
 -- The look-back, over any reader
 pub mod FoundWalk
 pub mod Listed
-pub mod FoundSearch
 pub mod SearchLaws
-pub mod WalkTree
-pub mod Looking
-pub mod LookFits
 pub mod Right
-pub mod AlikeReaders
 pub mod Passes
 pub mod ViewClaims
 pub mod StoreAlike
-pub mod LookAnswers
-pub mod LookLinks
 -- Words that hold a memory, and every call on any words
 pub mod TestLaws
-pub mod HeadKept
 pub mod Stored
-pub mod Started
+pub mod Fresh
 pub mod OneChange
-pub mod AnyChange
 pub mod EveryCall
-pub mod QueryLaws
 pub mod EveryLookBack
 -- Words after a history, and the theorems
 pub mod LookReady

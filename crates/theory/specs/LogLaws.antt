@@ -16,7 +16,7 @@ use Rattle.base.specs.Pigeonhole.{keyed}
 use Rattle.layout.specs.Sizes.{OPEN}
 use Rattle.calls.specs.Calls.{Call, Set, Clear, Update, Row}
 use Rattle.calls.specs.Log.{Log, without, andRow, tells, stateFrom, stateAt}
-use Rattle.theory.specs.Reading.{Reading, none, some, logged}
+use Rattle.theory.specs.Timeline.{Reading, none, some, logged}
 use Rattle.theory.specs.MemberLaws.{Unique, unique-nil, member-counted}
 
 -- ---- one change more

@@ -2,12 +2,13 @@
 -- right look-back asks (look-ready).
 use mathlib.Core.Path.{_≡_, sym, ap, _∙_}
 use mathlib.Core.List.{List}
-use Prim.Native.Nat.{ℕ, zero, suc, _+_, _*_, _-_, _/_, _≤_, _<_}
+use Prim.Native.Nat.{ℕ, zero, suc, _+_, _*_, _/_, _≤_, _<_}
 use native.Mathlib.Omega.{arith}
 use lib.Dec.{eqb}
 use lib.ListN.{getD}
 use borrow.Author.Tests.{ne-eqb}
 use Rattle.base.specs.Sums.{is, total}
+use Rattle.base.specs.Branch.{is?}
 use Rattle.layout.specs.declared.head.Head.{Head}
 use Rattle.layout.specs.declared.address.Address.{Address}
 use Rattle.layout.specs.declared.address.Address.the-variants.{Time, Field, Slot}
@@ -21,20 +22,39 @@ use Rattle.layout.specs.Parts.{blockWord, slotWord}
 use Rattle.layout.specs.PartsLaws.{block-word, slot-word, page-word}
 use Rattle.layout.specs.OverLaws.{over-read}
 use Rattle.calls.specs.Calls.{Row}
-use Rattle.calls.specs.Walk.{entries}
+use Rattle.calls.specs.Walk.{entries, Reader}
 use Rattle.calls.specs.LookBack.{reader}
-use Rattle.theory.specs.Tree.{View}
-use Rattle.theory.specs.Effects.{view, closed-word}
+use Rattle.theory.specs.Effects.{view, closed-word, recordsOf}
 use Rattle.theory.specs.State.{shape, State, NoneDue}
 use Rattle.theory.specs.Timeline.{Timeline}
-use Rattle.theory.specs.PartEffects.{recordsOf}
 use Rattle.theory.specs.RecordRows.{SlotHolds, rowsAt, standingRows, rows-of-records, words-sum, rows-once, rows-known, rows-unopened, rows-ended}
 use Rattle.theory.specs.FoundWalk.{rowsIn}
-use Rattle.theory.specs.WalkTree.{Agree}
-use Rattle.theory.specs.LookLinks.{linked-rooted, linked-lasts, indexed-holds}
+use Rattle.theory.specs.Listed.{Agree, Rooted, rooted-open, rooted-closed}
 use Rattle.theory.specs.Right.{LookSound, allWeigh, all-weigh-is}
 use Rattle.theory.specs.Stored.{Stored, stored-at}
+use Rattle.theory.specs.Row.{Linked, View}
+use Rattle.theory.specs.Times.{Indexed}
+use Rattle.theory.specs.SearchLaws.{entry, levels-hold}
 
+-- ---- what links and index say: every block is rooted, stays open until the next opens, and the pages hold the entries
+module _ {v : View} {N clock : ℕ} (i : Linked v N clock) where
+  pub linked-rooted : {R : Reader} → Agree R v N → (n : ℕ) → 0 < n → n ≤ N → Rooted R v n
+  linked-rooted a n p q = is? (v .closed n) OPEN
+      (λ o. let x = i .row n p q o in rooted-open a n p q o (x .up) (x .stands) (x .tree))
+      (λ d. let x = i .shut n q d in rooted-closed a n p q d (x .up) (x .under) (x .tree))
+
+  pub linked-lasts : {t : ℕ} → t < OPEN → (n : ℕ) → 0 < n → n ≤ N → (n < N → t < v .opened (n + 1)) → t < v .closed n
+  linked-lasts h n p q f = is? (v .closed n) OPEN
+      (λ o. omega arith)
+      (λ d. let x = i .shut n q d in omega (arith, f (x .inner), x .after))
+
+pub indexed-holds : {N : ℕ} {seconds : ℕ → ℕ} {times : ℕ → ℕ → ℕ} (R : Reader) → Indexed seconds times N
+    → ((l e j : ℕ) → l < 3 → j < pageLen → pageLen * e + j < entries N l → getD (R .page l e) j 0 ≡ times l (pageLen * e + j))
+    → (l e j : ℕ) → l < 3 → j < pageLen → pageLen * e + j < entries N l → getD (R .page l e) j 0 ≡ entry seconds l (pageLen * e + j)
+indexed-holds {N} {seconds} {times} R x h l e j p q r =
+    h l e j p q r ∙ levels-hold N seconds times (x .each) (x .pages) (x .tops) l (pageLen * e + j) p r
+
+-- ---- what the words hand out
 module _ {ws : List ℕ} {h : Head} {f : Memory} (i : Stored ws h f) where
   -- a word of the layout is the memory's
   word-at : (a : Address) → Valid (h .settings) a → readWord (h .settings) ws a ≡ f a

@@ -10,7 +10,7 @@ use lib.Dec.{eqb}
 use borrow.Author.Tests.{eqb-true}
 use Rattle.base.specs.Branch.{is?, lt?, by-test, and-true, eqb-same}
 use Rattle.base.specs.Bits.{bitAt, bit-none, withBit, withoutBit, with-here, with-other, without-here, without-other}
-use Rattle.base.specs.Places.{Lists, none, more}
+use Rattle.base.specs.Ones.{Lists, none, more}
 use Rattle.base.specs.Slots.{bitOf, slotsOf, slots-of}
 use Rattle.layout.specs.Sizes.{OPEN}
 use Rattle.theory.specs.Records.{Record, Records, Apart, place?, PutAt, Emptied}

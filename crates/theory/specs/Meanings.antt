@@ -4,34 +4,29 @@ use mathlib.Core.Path.{_≡_, refl, sym, ap, _∙_}
 use mathlib.Core.Logic.{_≢_, _↔_}
 use mathlib.Core.Bool.{true, _&&_}
 use mathlib.Core.List.{List, []}
-use Prim.Native.Nat.{ℕ, _-_, _/_, _%_, _≤_, _<_}
+use Prim.Native.Nat.{ℕ, _≤_, _<_}
 use native.Mathlib.Omega.{arith}
 use lib.Dec.{ltb, leb}
-use borrow.Author.Tests.{eqb-true, ltb-true, leb-true, lt-ltb, le-ltb}
-use Rattle.base.specs.Branch.{cond-all, lt?, and-true}
-use Rattle.base.specs.Slots.{bitOf, slots-count}
-use Rattle.layout.specs.declared.settings.Settings.{Settings}
-use Rattle.layout.specs.declared.head.Cursor.{Cursor}
+use borrow.Author.Tests.{eqb-true, eq-eqb, ltb-true, leb-true}
+use Rattle.base.specs.Branch.{cond-all, and-true}
+use Rattle.base.specs.Slots.{slots-count}
 use Rattle.layout.specs.declared.head.Head.{Head}
 use Rattle.layout.specs.declared.standing.Standing.{Standing}
 use Rattle.layout.specs.declared.address.Address.the-variants.{Dir, Bits, Slot}
 use Rattle.layout.specs.Sizes.{OPEN}
 use Rattle.layout.specs.Fields.{tagWord, fromWord, toWord}
-use Rattle.layout.specs.Address.{Numbered}
-use Rattle.layout.specs.Memory.{Memory}
 use Rattle.layout.specs.Head.{headOf}
-use Rattle.layout.specs.Standing.{stands}
+use Rattle.layout.specs.Standing.{stands, blockBits}
 use Rattle.layout.specs.Parts.{slotWord}
 use Rattle.calls.specs.Calls.{Row}
 use Rattle.calls.specs.Placing.{placeOf}
 use Rattle.calls.specs.Walk.{rowOf}
-use Rattle.calls.specs.Refusals.{bitsOf}
 use Rattle.calls.specs.Step.{wordsRead}
 use Rattle.calls.specs.History.{Account}
 use Rattle.calls.specs.Claims.{AnyBlock, StandsAt, Means}
-use Rattle.theory.specs.PartEffects.{marksOf}
-use Rattle.theory.specs.Sound.{stands-is}
-use Rattle.theory.specs.Honest.{Honest, head-is, word-is}
+use Rattle.theory.specs.Effects.{marksOf}
+use Rattle.theory.specs.Sound.{stands-bit}
+use Rattle.theory.specs.Honest.{Honest, head-is, word-is, block-numbered}
 use Rattle.theory.specs.ByAccount.{free-among, among-free}
 
 -- ---- any block's words
@@ -48,57 +43,32 @@ pub any-block : AnyBlock
 any-block = record { brief = brief; number-of-ones = λ b l h. slots-count (b .low) (b .high) l h }
 
 -- ---- after a history
--- a slot that stands has its bit
-is-stands : (w : ℕ → ℕ) (k : ℕ) → k < 64 → stands (record { low = w 0; high = w 1 }) k ≡ true → bitOf w k ≡ 1
-unfolding stands
-is-stands w k a h = lt? k 32
-    (λ b.
-    let e : k % 32 ≡ k = omega arith in
-    let d : k / 32 ≡ 0 = omega arith in
-    rw (e, d) (eqb-true _ _ (rw (lt-ltb k 32 b) at h)))
-    (λ b.
-    let e : k % 32 ≡ k - 32 = omega arith in
-    let d : k / 32 ≡ 1 = omega arith in
-    rw (e, d) (eqb-true _ _ (rw (le-ltb k 32 b) at h)))
-
 module _ {ws : List ℕ} {a : Account} (i : Honest ws a) where
-  abbrev s : Settings
-  s = a .settings
-
-  abbrev c : Cursor
-  c = i .cursor
-
-  abbrev f : Memory
-  f = i .memory
-
-  numbered : (n : ℕ) → 1 ≤ n → n ≤ c .opened → Numbered s n
-  numbered n l h = record { low = l; high = omega (arith, i .rest .limit) }
-
-  bits-are : (n : ℕ) → 1 ≤ n → n ≤ c .opened → bitsOf (headOf ws) (wordsRead ws) n ≡ record { low = f (Bits n 0); high = f (Bits n 1) }
+  bits-are : (n : ℕ) → 1 ≤ n → n ≤ i .cursor .opened → blockBits (wordsRead ws) n ≡ record { low = i .memory (Bits n 0); high = i .memory (Bits n 1) }
   bits-are n l h = λ j. record {
-    low = word-is i (Bits n 0) (numbered n l h, omega arith) j;
-    high = word-is i (Bits n 1) (numbered n l h, omega arith) j;
+    low = word-is i (Bits n 0) (block-numbered i n l h, omega arith) j;
+    high = word-is i (Bits n 1) (block-numbered i n l h, omega arith) j;
   }
 
-  opened-is : headOf ws .cursor .opened ≡ c .opened
+  opened-is : headOf ws .cursor .opened ≡ i .cursor .opened
   opened-is = ap (λ (h : Head). h .cursor .opened) (head-is i)
 
-  block-is : headOf ws .settings .block ≡ s .block
+  block-is : headOf ws .settings .block ≡ a .settings .block
   block-is = ap (λ (h : Head). h .settings .block) (head-is i)
 
   -- the word of a slot
-  slot-is : (n k j : ℕ) → 1 ≤ n → n ≤ c .opened → k < s .block → j < 4 → wordsRead ws (Slot n k j) ≡ f (Slot n k j)
-  slot-is n k j l h q w = word-is i (Slot n k j) (numbered n l h, q, w)
+  slot-is : (n k j : ℕ) → 1 ≤ n → n ≤ i .cursor .opened → k < a .settings .block → j < 4 → wordsRead ws (Slot n k j) ≡ i .memory (Slot n k j)
+  slot-is n k j l h q w = word-is i (Slot n k j) (block-numbered i n l h, q, w)
 
-  bit-iff : (n k : ℕ) → 1 ≤ n → n ≤ c .opened → k < s .block → (stands (bitsOf (headOf ws) (wordsRead ws) n) k ≡ true) ↔ (wordsRead ws (Slot n k toWord) ≡ OPEN)
+  bit-iff : (n k : ℕ) → 1 ≤ n → n ≤ i .cursor .opened → k < a .settings .block → (stands (blockBits (wordsRead ws) n) k ≡ true) ↔ (wordsRead ws (Slot n k toWord) ≡ OPEN)
   bit-iff n k l h q =
       let m = i .rest .full .state .marked in
       let low : k < 64 = omega (arith, i .rest .full .within .most) in
       let to = slot-is n k toWord l h q (omega arith) in
-      let e = ap (λ (b : Standing). stands b k) (bits-are n l h) in
-      (λ t. to ∙ m .unended n k (is-stands (marksOf f n) k low (sym e ∙ t)), λ o. e ∙ stands-is (marksOf f n) k low (m .marks n k (sym to ∙ o)))
+      let e = ap (λ (b : Standing). stands b k) (bits-are n l h) ∙ stands-bit (marksOf (i .memory) n) k low in
+      (λ t. to ∙ m .unended n k (eqb-true _ _ (sym e ∙ t)), λ o. e ∙ eq-eqb _ _ (m .marks n k (sym to ∙ o)))
 
-  place : (tag : ℕ) → tag < s .tags → wordsRead ws (Dir tag) ≢ 0 → (n : ℕ) × (k : ℕ) × StandsAt ws tag n k × (wordsRead ws (Dir tag) ≡ placeOf s n k)
+  place : (tag : ℕ) → tag < a .settings .tags → wordsRead ws (Dir tag) ≢ 0 → (n : ℕ) × (k : ℕ) × StandsAt ws tag n k × (wordsRead ws (Dir tag) ≡ placeOf (a .settings) n k)
   place tag known d =
       let st = i .rest .full .state in
       let w = word-is i (Dir tag) known in
@@ -106,7 +76,7 @@ module _ {ws : List ℕ} {a : Account} (i : Honest ws a) where
       let n = z .0 in
       let k = z .1 in
       let p = st .kept .used n k (omega (arith, z .2)) in
-      let e : f (Dir tag) ≡ placeOf s n k = ap (λ (y : ℕ). f (Dir y)) (sym (z .3)) ∙ st .found .finds n k (z .2) in (
+      let e : i .memory (Dir tag) ≡ placeOf (a .settings) n k = ap (λ (y : ℕ). i .memory (Dir y)) (sym (z .3)) ∙ st .found .finds n k (z .2) in (
         n,
         k,
         record {

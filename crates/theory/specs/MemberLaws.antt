@@ -1,20 +1,65 @@
--- Lists in which no key stands twice: two of them with the same members have the same rows, order aside; and their keys are a list without
--- repetition.
-use mathlib.Core.Path.{_≡_, refl, sym, ap}
-use mathlib.Core.Logic.{_⊎_, inl, inr}
-use mathlib.Core.List.{List, [], _∷_, _++_, map, List·Nodup}
-use mathlib.Core.List.{List·Memᴰ, List·Memᴰ·head, List·Memᴰ·tail, List·Memᴰ·not-nil, List·Memᴰ·cases-cons}
+-- Lists in which no key stands twice: two of them with the same members have the same rows, order aside, and their keys are a list without repetition.
+-- Lists joined one after another: their sums, their members, and that no key stands twice in them. Before these, more of the sums of base.
+use mathlib.Core.Path.{_≡_, refl, sym, ap, _∙_}
+use mathlib.Core.List.{List, [], _∷_, map, _++_, List·Nodup, List·Memᴰ, List·Memᴰ·head, List·Memᴰ·tail, List·Memᴰ·not-nil, List·Memᴰ·cases-cons}
 use mathlib.Core.List.{List·Memᴰ·append-cases, Memᴰ·append-left, Memᴰ·append-right}
-use Prim.Native.Nat.{ℕ, _+_, _≤_, _<_}
+use mathlib.Core.Logic.{_⊎_, inl, inr}
+use Prim.Native.Nat.{ℕ, zero, suc, _≤_, _<_, _+_}
 use native.Mathlib.Omega.{arith}
 use lib.Dec.{eqb}
 use borrow.Author.Tests.{eq-eqb, ne-eqb}
-use Rattle.base.specs.Branch.{is?, eqb-same}
-use Rattle.base.specs.Sums.{All, nil, cons, totals, is}
+use Rattle.base.specs.Branch.{lt?, is?, eqb-same}
+use Rattle.base.specs.Sums.{total, totals, upto, upto-suc, sumTo, All, nil, cons, is}
 use Rattle.base.specs.Pigeonhole.{keyed}
 use Rattle.base.specs.SameRows.{Same, once-nodup}
-use Rattle.theory.specs.SumLaws.{total-map}
 
+-- The weight of a member's image.
+pub total-map : {A B : Type 0} (w : B → ℕ) (f : A → B) (l : List A) → total w (map f l) ≡ total (λ x. w (f x)) l
+total-map w f [] = simp totals
+total-map w f (x ∷ l) = simp totals (omega (arith, total-map w f l))
+
+-- From 1 to n is below n, one up.
+pub sumTo-below : (w : ℕ → ℕ) (n : ℕ) → sumTo n w ≡ upto (λ k. w (suc k)) n
+unfolding sumTo upto
+sumTo-below w zero = refl
+sumTo-below w (suc n) = omega (arith, sumTo-below w n)
+
+-- More numbers have no smaller sum.
+pub upto-grows : (w : ℕ → ℕ) (a b : ℕ) → a ≤ b → upto w a ≤ upto w b
+upto-grows w a zero h = let e : a ≡ 0 = omega arith in rw e (omega arith)
+upto-grows w a (suc b) h = lt? b a
+    (λ p. let e : a ≡ suc b = omega arith in rw e (omega arith))
+    (λ p. simp upto-suc (omega (arith, upto-grows w a b p)))
+
+-- Where a sum is not 0, one of its weights is not.
+pub record Some (w : ℕ → ℕ) (b : ℕ) : Type 0 where
+  pub at : ℕ
+  pub below : at < b
+  pub positive : 0 < w at
+
+pub upto-some : (w : ℕ → ℕ) (b : ℕ) → 0 < upto w b → Some w b
+unfolding upto
+upto-some w zero h = absurd (omega arith)
+upto-some w (suc b) h = lt? 0 (w b)
+    (λ p. record { at = b; below = omega arith; positive = p })
+    (λ p. let s = upto-some w b (omega arith) in record { at = s .at; below = omega (arith, s .below); positive = s .positive })
+
+-- Weights of at most 1, no two of them positive: their sum is at most 1.
+pub upto-one : (w : ℕ → ℕ) (b : ℕ) → ((k : ℕ) → k < b → w k ≤ 1)
+    → ((k i : ℕ) → k < b → i < b → 0 < w k → 0 < w i → k ≡ i) → upto w b ≤ 1
+unfolding upto
+upto-one w zero most alone = omega arith
+upto-one w (suc b) most alone =
+    let below = upto-one w b (λ k h. most k (omega arith)) (λ k i h j. alone k i (omega arith) (omega arith)) in
+    lt? 0 (upto w b)
+    (λ p.
+    let s = upto-some w b p in
+    lt? 0 (w b)
+    (λ q. absurd (omega (arith, alone (s .at) b (omega (arith, s .below)) (omega arith) (s .positive) q, s .below)))
+    (λ q. omega arith))
+    (λ p. omega (arith, most b (omega arith)))
+
+-- ---- no key twice
 -- no key stands twice
 pub record Unique {A : Type 0} (key : A → ℕ) (l : List A) : Type 0 where
   pub once : (m : ℕ) → keyed key m l ≤ 1
@@ -113,3 +158,53 @@ module _ {A : Type 0} (key : A → ℕ) where
       (among-rest x [] l (s .before) (s .after) u v′ (rw (s .is-split) at f))
       (among-rest x (s .before) (s .after) [] l v′ u (rw (s .is-split) at g)) in
       record { sums = λ w. rw (s .is-split) (simp totals (omega (arith, simp totals at (r .sums w)))) }
+
+-- ---- lists joined one after another, f 0, f 1, .. up to the n-th
+module _ {A : Type 0} (f : ℕ → List A) where
+  unfoldable pub joined : ℕ → List A
+  joined zero = []
+  joined (suc k) = joined k ++ f k
+
+  pub total-joined : (w : A → ℕ) (n : ℕ) → total w (joined n) ≡ upto (λ k. total w (f k)) n
+  unfolding joined upto
+  total-joined w zero = simp totals
+  total-joined w (suc n) = simp totals (omega (arith, total-joined w n))
+
+  -- Empty lists join to an empty one.
+  pub joined-nil : (n : ℕ) → ((k : ℕ) → k < n → f k ≡ []) → joined n ≡ []
+  unfolding joined
+  joined-nil zero h = refl
+  joined-nil (suc n) h = rw (joined-nil n (λ k p. h k (omega arith)), h n (omega arith))
+
+  -- A member stands in one of the lists, and so back.
+  pub record MemberOf (x : A) (n : ℕ) : Type 0 where
+    pub at : ℕ
+    pub below : at < n
+    pub member : List·Memᴰ x (f at)
+
+  pub joined-members : (x : A) (n : ℕ) → List·Memᴰ x (joined n) → MemberOf x n
+  unfolding joined
+  joined-members x zero i = absurd (List·Memᴰ·not-nil i)
+  joined-members x (suc n) i = go (joined-members x n) (List·Memᴰ·append-cases (joined n) i)
+    where
+      go : (List·Memᴰ x (joined n) → MemberOf x n) → List·Memᴰ x (joined n) ⊎ List·Memᴰ x (f n) → MemberOf x (suc n)
+      go before (inl j) = let m = before j in record { at = m .at; below = omega (arith, m .below); member = m .member }
+      go before (inr j) = record { at = n; below = omega arith; member = j }
+
+  pub members-joined : (x : A) (n k : ℕ) → k < n → List·Memᴰ x (f k) → List·Memᴰ x (joined n)
+  unfolding joined
+  members-joined x zero k h i = absurd (omega arith)
+  members-joined x (suc n) k h i = is? k n
+      (λ e. Memᴰ·append-right (joined n) (rw e at i))
+      (λ d. Memᴰ·append-left (f n) (members-joined x n k (omega arith) i))
+
+  -- No key twice in one list, and none in two of them: none twice at all.
+  pub unique-joined : (key : A → ℕ) (n : ℕ) → ((k : ℕ) → k < n → Unique key (f k))
+      → ((k i : ℕ) (x y : A) → k < n → i < n → List·Memᴰ x (f k) → List·Memᴰ y (f i) → key x ≡ key y → k ≡ i) → Unique key (joined n)
+  unique-joined key n unique apart = record {
+    once = λ m. rw (total-joined _ n) (upto-one (λ k. keyed key m (f k)) n (λ k h. unique k h .once m)
+        (λ k i h j p q.
+        let x = counted-member key m (f k) p in
+        let y = counted-member key m (f i) q in
+        apart k i (x .of) (y .of) h j (x .member) (y .member) (x .has-key ∙ sym (y .has-key))));
+  }

@@ -8,7 +8,7 @@ use native.Mathlib.Omega.{arith}
 use lib.Dec.{eqb, ltb}
 use borrow.Author.Tests.{eq-eqb, le-ltb}
 use Rattle.base.specs.Branch.{is?, by-test}
-use Rattle.base.specs.Sums.{is, is-small, over, over-none}
+use Rattle.base.specs.Sums.{is, is-small, sumTo, sumTo-none}
 use Rattle.layout.specs.declared.head.Cursor.{Cursor}
 use Rattle.layout.specs.declared.head.Head.{Head}
 use Rattle.layout.specs.declared.address.Address.the-variants.{Field}
@@ -16,7 +16,7 @@ use Rattle.layout.specs.Sizes.{OPEN}
 use Rattle.layout.specs.Fields.{closedWord}
 use Rattle.layout.specs.Head.{headOf}
 use Rattle.layout.specs.Program.{Prog, run, runOn}
-use Rattle.layout.specs.OnWords.{over as overWords}
+use Rattle.layout.specs.OnWords.{over}
 use Rattle.calls.specs.Refusals.{opens}
 use Rattle.calls.specs.Step.{wordsRead}
 use Rattle.calls.specs.Claims.{Small, closing, Foretold}
@@ -25,20 +25,20 @@ use Rattle.theory.specs.Stored.{Left, stored-at}
 -- ---- sums of a weight that is 0 or 1
 module _ (w : ℕ → ℕ) (x : ℕ) (small : (n : ℕ) → w n ≤ 1) where
   -- 0 but at x
-  over-one : (n : ℕ) → ((m : ℕ) → 1 ≤ m → m ≤ n → m ≢ x → w m ≡ 0) → over n w ≤ 1
-  unfolding over
-  over-one zero h = omega arith
-  over-one (suc n) h = is? (suc n) x
+  sumTo-one : (n : ℕ) → ((m : ℕ) → 1 ≤ m → m ≤ n → m ≢ x → w m ≡ 0) → sumTo n w ≤ 1
+  unfolding sumTo
+  sumTo-one zero h = omega arith
+  sumTo-one (suc n) h = is? (suc n) x
       (λ e.
-      let none = over-none w 0 n (omega arith) (λ m a b. h m a (omega arith) (omega arith)) in
+      let none = sumTo-none w 0 n (omega arith) (λ m a b. h m a (omega arith) (omega arith)) in
       omega (arith, small (suc n)))
-      (λ d. omega (arith, h (suc n) (omega arith) (omega arith) d, over-one n (λ m a b. h m a (omega arith))))
+      (λ d. omega (arith, h (suc n) (omega arith) (omega arith) d, sumTo-one n (λ m a b. h m a (omega arith))))
 
   -- 0 but at x and at the last
-  over-two : (n : ℕ) → ((m : ℕ) → 1 ≤ m → m < n → m ≢ x → w m ≡ 0) → over n w ≤ 2
-  unfolding over
-  over-two zero h = omega arith
-  over-two (suc n) h = omega (arith, small (suc n), over-one n (λ m a b. h m a (omega arith)))
+  sumTo-two : (n : ℕ) → ((m : ℕ) → 1 ≤ m → m < n → m ≢ x → w m ≡ 0) → sumTo n w ≤ 2
+  unfolding sumTo
+  sumTo-two zero h = omega arith
+  sumTo-two (suc n) h = omega (arith, small (suc n), sumTo-one n (λ m a b. h m a (omega arith)))
 
 -- a word that stays is not closed
 not-closed : (b : Bool) → is (b && not b) ≡ 0
@@ -50,19 +50,16 @@ closing-small ws us n =
     is-small ((ltb (headOf ws .cursor .opened) n || eqb (wordsRead ws (Field n closedWord)) OPEN) && not (eqb (wordsRead us (Field n closedWord)) OPEN))
 
 -- ---- a store to itself
-over-first : (w : ℕ → ℕ) → over 0 w ≡ 0
-unfolding over
-over-first w = refl
-
 pub small-same : (ws : List ℕ) → Small ws ws
+unfolding sumTo
 small-same ws = record {
   opens = omega arith;
   keeps = omega arith;
   closes =
       let N = headOf ws .cursor .opened in
-      let none : over N (closing ws ws) ≡ 0 =
-      sym (over-none (closing ws ws) 0 N (omega arith)
-      (λ m a b. rw (le-ltb N m b) (not-closed (eqb (wordsRead ws (Field m closedWord)) OPEN)))) ∙ over-first (closing ws ws) in
+      let none : sumTo N (closing ws ws) ≡ 0 =
+      sym (sumTo-none (closing ws ws) 0 N (omega arith)
+      (λ m a b. rw (le-ltb N m b) (not-closed (eqb (wordsRead ws (Field m closedWord)) OPEN)))) in
       omega arith;
 }
 
@@ -74,7 +71,7 @@ module _ {ws : List ℕ} {p : Prog Cursor} {now incoming x : ℕ} {W : ℕ → B
   N = headOf ws .cursor .opened
 
   abbrev us : List ℕ
-  us = (run (overWords (headOf ws .settings)) p ws) .1
+  us = (run (over (headOf ws .settings)) p ws) .1
 
   abbrev d : Cursor
   d = (runOn p (wordsRead ws)) .0
@@ -85,7 +82,7 @@ module _ {ws : List ℕ} {p : Prog Cursor} {now incoming x : ℕ} {W : ℕ → B
   -- a closed word of the words left
   closed-is : (n : ℕ) → 1 ≤ n → n ≤ d .opened → wordsRead us (Field n closedWord) ≡ (runOn p (wordsRead ws)) .1 (Field n closedWord)
   closed-is n low high =
-      ap (λ (h : Head). overWords (h .settings) .read us (Field n closedWord)) (sym (left .store .read .is))
+      ap (λ (h : Head). over (h .settings) .read us (Field n closedWord)) (sym (left .store .read .is))
       ∙ stored-at (left .store) (Field n closedWord) (record { low = low; high = omega (arith, left .store .read .sound .opened) }, omega arith)
 
   stays : (n : ℕ) → 1 ≤ n → n < N → n ≤ d .opened → n ≢ x → closing ws us n ≡ 0
@@ -95,18 +92,18 @@ module _ {ws : List ℕ} {p : Prog Cursor} {now incoming x : ℕ} {W : ℕ → B
       rw (le-ltb N n (omega arith), e) (not-closed (eqb (wordsRead ws (Field n closedWord)) OPEN))
 
   -- one block more, which is open
-  grown : opens (headOf ws) incoming ≡ true → over (N + 1) (closing ws us) ≤ 2
+  grown : opens (headOf ws) incoming ≡ true → sumTo (N + 1) (closing ws us) ≤ 2
   grown o =
       let more : d .opened ≡ N + 1 = i .blocks ∙ rw o in
       let new : wordsRead us (Field (N + 1) closedWord) ≡ OPEN = closed-is (N + 1) (omega arith) (omega arith) ∙ i .new o in
       let none : closing ws us (N + 1) ≡ 0 = simp (eq-eqb (wordsRead us (Field (N + 1) closedWord)) OPEN new, and-false) in
-      let same = over-none (closing ws us) N (N + 1) (omega arith) (λ m a b. let z : m ≡ N + 1 = omega arith in rw z none) in
-      omega (arith, over-two (closing ws us) x (closing-small ws us) N (λ m a b c. stays m a b (omega arith) c))
+      let same = sumTo-none (closing ws us) N (N + 1) (omega arith) (λ m a b. let z : m ≡ N + 1 = omega arith in rw z none) in
+      omega (arith, sumTo-two (closing ws us) x (closing-small ws us) N (λ m a b c. stays m a b (omega arith) c))
 
-  even : opens (headOf ws) incoming ≡ false → over N (closing ws us) ≤ 2
+  even : opens (headOf ws) incoming ≡ false → sumTo N (closing ws us) ≤ 2
   even o =
       let same : d .opened ≡ N = i .blocks ∙ rw o in
-      over-two (closing ws us) x (closing-small ws us) N (λ m a b c. stays m a b (omega arith) c)
+      sumTo-two (closing ws us) x (closing-small ws us) N (λ m a b c. stays m a b (omega arith) c)
 
   pub small-left : Small ws us
   small-left = by-test (opens (headOf ws) incoming) (λ b. opens (headOf ws) incoming ≡ b → Small ws us)

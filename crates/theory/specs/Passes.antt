@@ -1,5 +1,5 @@
 -- The pages that a search passes: their levels fall, so each level is passed at most once, and their numbers are below 4,096, so none is OPEN. Hence a
--- view's three page words tell every pass (passed-pages) and count them (passes-counted).
+-- view's three page words tell every pass (passed-pages) and count them (passes-counted). And the block found is one of the N (search-below).
 use mathlib.Core.Path.{_≡_, refl, sym}
 use mathlib.Core.Logic.{_≢_}
 use mathlib.Core.Bool.{cond}
@@ -16,9 +16,9 @@ use Rattle.calls.specs.Calls.{Row}
 use Rattle.calls.specs.Walk.{Reader, Pass, entries, topLevel, lookUp, looked, look}
 use Rattle.calls.specs.LookBack.{passedOn, viewOf}
 use Rattle.calls.specs.Claims.{passedPages}
-use Rattle.theory.specs.FoundSearch.{Descent, ground, down, Search, empty, before, onto}
+use Rattle.theory.specs.FoundWalk.{Descent, ground, down, Search, empty, before, onto, look-parts}
 use Rattle.theory.specs.SearchLaws.{Last, nowhere, at, last-is, top-below}
-use Rattle.theory.specs.Looking.{look-parts}
+use Rattle.theory.specs.Listed.{path-apart}
 
 -- passes whose levels fall from below l on, and whose page numbers are below 4,096
 pub data Falling : ℕ → List Pass → Type 0 where
@@ -27,7 +27,7 @@ pub data Falling : ℕ → List Pass → Type 0 where
 
 -- ---- a search's passes fall
 
-module _ (t opened : ℕ) (R : Reader) (few : opened ≤ 4096) where
+module _ (t opened : ℕ) (R : Reader) where
   -- what a page gives is an entry of its level
   given-entry : (l e j : ℕ) → lookUp t opened R l e ≡ suc j → pageLen * e + j < entries opened l
   unfolding lookUp
@@ -37,24 +37,36 @@ module _ (t opened : ℕ) (R : Reader) (few : opened ≤ 4096) where
       go zero (nowhere f) i = absurd (omega arith)
       go (suc k) (at p q f) i = omega arith
 
-  entries-few : (l : ℕ) → entries opened l ≤ 4096
+  descent-below : {l e n : ℕ} {ps : List Pass} → Descent t opened R l e n ps → e < entries opened l → n ≤ opened
   unfolding entries
-  entries-few zero = few
-  entries-few (suc l) = omega (arith, entries-few l)
+  descent-below ground a = omega arith
+  descent-below (down {l} {e} {j} h d) a = descent-below d (given-entry l e j h)
 
-  descent-falls : {l e n : ℕ} {ps : List Pass} → Descent t opened R l e n ps → e < entries opened l → Falling l ps
-  descent-falls ground h = done
-  descent-falls (down {l} {e} {j} i d) h =
-      let low : l < suc l = omega arith in
-      let small : e < 4096 = omega (arith, entries-few (suc l)) in
-      pass low small (descent-falls d (given-entry l e j i))
+  -- the block found is one of the N
+  pub search-below : {n : ℕ} {ps : List Pass} → Search t opened R n ps → n ≤ opened
+  search-below (empty e) = omega arith
+  search-below (before p h) = omega arith
+  search-below (onto {j} p h d) = descent-below d (omega (arith, given-entry (topLevel opened) 0 j h))
 
-  pub search-falls : {n : ℕ} {ps : List Pass} → Search t opened R n ps → Falling 3 ps
-  search-falls (empty e) = done
-  search-falls (before p h) = let small : 0 < 4096 = omega arith in pass (top-below opened) small done
-  search-falls (onto {j} p h d) =
-      let small : 0 < 4096 = omega arith in
-      pass (top-below opened) small (descent-falls d (omega (arith, given-entry (topLevel opened) 0 j h)))
+  module _ (few : opened ≤ 4096) where
+    entries-few : (l : ℕ) → entries opened l ≤ 4096
+    unfolding entries
+    entries-few zero = few
+    entries-few (suc l) = omega (arith, entries-few l)
+
+    descent-falls : {l e n : ℕ} {ps : List Pass} → Descent t opened R l e n ps → e < entries opened l → Falling l ps
+    descent-falls ground h = done
+    descent-falls (down {l} {e} {j} i d) h =
+        let low : l < suc l = omega arith in
+        let small : e < 4096 = omega (arith, entries-few (suc l)) in
+        pass low small (descent-falls d (given-entry l e j i))
+
+    pub search-falls : {n : ℕ} {ps : List Pass} → Search t opened R n ps → Falling 3 ps
+    search-falls (empty e) = done
+    search-falls (before p h) = let small : 0 < 4096 = omega arith in pass (top-below opened) small done
+    search-falls (onto {j} p h d) =
+        let small : 0 < 4096 = omega arith in
+        pass (top-below opened) small (descent-falls d (omega (arith, given-entry (topLevel opened) 0 j h)))
 
 -- ---- what falling passes tell
 
@@ -138,3 +150,10 @@ page-word r l ps zero h = refl
 page-word r l ps (suc zero) h = refl
 page-word r l ps (suc (suc zero)) h = refl
 page-word r l ps (suc (suc (suc k))) h = absurd (omega arith)
+
+-- An answered look-back gives at most D rows and lists at most N blocks, so its answer fits its buffers.
+pub look-fits : (b d N t : ℕ) (R : Reader) (r : List Row) (l : List ℕ) (ps : List Pass) → look b d N t R ≡ looked r l ps
+    → (length r ≤ d) × (length l ≤ N)
+look-fits b d N t R r l ps e =
+    let x = look-parts e in
+    (x .fits, omega (arith, path-apart b t R (x .walked) .short, search-below t N R (x .searched)))

@@ -9,7 +9,7 @@ use native.Mathlib.Omega.{arith}
 use lib.Dec.{leb, ltb}
 use borrow.Author.Tests.{leb-true, ltb-true, le-leb, lt-ltb, lt-leb}
 use Rattle.base.specs.Branch.{by-eqb, cond-all, and-true, and-is}
-use Rattle.base.specs.Sums.{total, totals, total-none, is, over, over-same}
+use Rattle.base.specs.Sums.{total, totals, total-none, is, sumTo, sumTo-same}
 use Rattle.base.specs.SameRows.{Same}
 use Rattle.layout.specs.Sizes.{OPEN}
 use Rattle.layout.specs.Fields.{tagWord, readingWord, fromWord, toWord}
@@ -17,13 +17,10 @@ use Rattle.layout.specs.Parts.{slotWord}
 use Rattle.calls.specs.Calls.{Row}
 use Rattle.calls.specs.Log.{Log, stateAt}
 use Rattle.calls.specs.Walk.{rowOf, rowsOf}
-use Rattle.theory.specs.Tree.{View}
-use Rattle.theory.specs.Reading.{Reading, some}
+use Rattle.theory.specs.Row.{View}
 use Rattle.theory.specs.Records.{Record, Records, Stands, Kept}
-use Rattle.theory.specs.Timeline.{Timeline, Told}
-use Rattle.theory.specs.SumLaws.{over-below}
-use Rattle.theory.specs.MemberLaws.{unique-nil, Among, all-members, same-members}
-use Rattle.theory.specs.Joined.{joined, joined-nil, total-joined, joined-members, members-joined, unique-joined}
+use Rattle.theory.specs.Timeline.{Timeline, Told, Reading, some}
+use Rattle.theory.specs.MemberLaws.{unique-nil, Among, all-members, same-members, sumTo-below, joined, joined-nil, total-joined, joined-members, members-joined, unique-joined}
 use Rattle.theory.specs.LogLaws.{readings, reading-member, member-reading, UniqueTags, Once}
 
 abbrev pub rowOfRecord : Record → Row
@@ -108,16 +105,16 @@ rows-none b t f h = joined-nil _ b (λ k p. no-row (h k p))
 -- ---- all blocks
 
 -- The sum over all rows, block by block.
-pub rows-sum : (b N t : ℕ) (R : Records) (w : Row → ℕ) → over N (λ m. total w (standingRows b t (R m))) ≡ total w (rowsAt b N t R)
+pub rows-sum : (b N t : ℕ) (R : Records) (w : Row → ℕ) → sumTo N (λ m. total w (standingRows b t (R m))) ≡ total w (rowsAt b N t R)
 unfolding rowsAt
-rows-sum b N t R w = over-below _ N ∙ sym (total-joined _ w N)
+rows-sum b N t R w = sumTo-below _ N ∙ sym (total-joined _ w N)
 
 -- And over the rows that a look-back takes, where the blocks hold the records.
 pub words-sum : (b N t : ℕ) (R : Records) (block : ℕ → List ℕ) (w : Row → ℕ)
     → ((m k : ℕ) → 0 < m → m ≤ N → k < b → SlotHolds (block m) k (R m k))
-    → over N (λ m. total w (rowsOf b t (block m))) ≡ total w (rowsAt b N t R)
+    → sumTo N (λ m. total w (rowsOf b t (block m))) ≡ total w (rowsAt b N t R)
 words-sum b N t R block w h =
-    over-same _ _ N (λ m p q. ap (total w) (rows-of-records b t (block m) (R m) (λ k j. h m k p q j))) ∙ rows-sum b N t R w
+    sumTo-same _ _ N (λ m p q. ap (total w) (rows-of-records b t (block m) (R m) (λ k j. h m k p q j))) ∙ rows-sum b N t R w
 
 -- A row's record, and where it is.
 record RowFrom (t : ℕ) (R : Records) (x : Row) : Type 0 where
@@ -191,6 +188,3 @@ module _ {R : Records} {v : View} {b tags N fill clock : ℕ} (kept : Kept R v b
 
     pub rows-log : Same (rowsAt b N t R) (stateAt log t)
     rows-log = same-members (λ r. r .tag) _ _ (rows-once told b N t o) (once .at t o) in-log in-records
-
-    pub rows-log-sum : (w : Row → ℕ) → over N (λ m. total w (standingRows b t (R m))) ≡ total w (stateAt log t)
-    rows-log-sum w = rows-sum b N t R w ∙ rows-log .sums w

@@ -10,30 +10,29 @@ use lib.Dec.{ltb, leb, eqb}
 use lib.ListN.{length, getD}
 use borrow.Author.Tests.{lt-ltb, le-ltb, le-leb, lt-leb}
 use Rattle.base.specs.Branch.{lt?}
-use Rattle.base.specs.Sums.{is, total, total-nil, total-length, over, over-upto, over-none, over-same, over-times}
+use Rattle.base.specs.Sums.{is, total, total-nil, total-length, sumTo, sumTo-upto, sumTo-none, sumTo-same, sumTo-times}
 use Rattle.base.specs.Pigeonhole.{keyed, pigeonhole}
 use Rattle.layout.specs.Sizes.{pageLen}
+use Rattle.layout.specs.Head.{headOf}
 use Rattle.calls.specs.Calls.{Row}
 use Rattle.calls.specs.Walk.{Reader, Pass, entries, looked, look}
-use Rattle.theory.specs.Tree.{View}
-use Rattle.theory.specs.FoundWalk.{closedOf, rowsIn}
-use Rattle.theory.specs.Listed.{Apart, apart-wider, path-apart, outlasts, Late, late-outlasts, path-half, rowsWeigh, path-rows}
-use Rattle.theory.specs.FoundSearch.{Search}
+use Rattle.calls.specs.LookBack.{reader, lookAt, isUnsound}
+use Rattle.theory.specs.Row.{View}
+use Rattle.theory.specs.FoundWalk.{closedOf, rowsIn, Search, looks}
+use Rattle.theory.specs.Listed.{Apart, apart-wider, path-apart, outlasts, Late, late-outlasts, path-half, rowsWeigh, path-rows, Agree, Rooted, WholePath, whole-path}
 use Rattle.theory.specs.SearchLaws.{entry, finds}
-use Rattle.theory.specs.WalkTree.{Agree, Rooted, WholePath, whole-path}
-use Rattle.theory.specs.Looking.{looks}
 
 -- what all rows of blocks 1 to N at t weigh
 unfoldable pub allWeigh : ℕ → ℕ → ℕ → Reader → (Row → ℕ) → ℕ
-allWeigh b N t R w = over N (rowsWeigh b t R w)
+allWeigh b N t R w = sumTo N (rowsWeigh b t R w)
 
-pub all-weigh-is : (b N t : ℕ) (R : Reader) (w : Row → ℕ) → allWeigh b N t R w ≡ over N (λ n. total w (rowsIn b t R n))
+pub all-weigh-is : (b N t : ℕ) (R : Reader) (w : Row → ℕ) → allWeigh b N t R w ≡ sumTo N (λ n. total w (rowsIn b t R n))
 unfolding allWeigh rowsWeigh
 all-weigh-is b N t R w = refl
 
 -- the blocks open at t: opened ≤ t < closed
 unfoldable pub blocksOpen : ℕ → ℕ → View → ℕ
-blocksOpen N t v = over N (λ n. is (leb (v .opened n) t && ltb t (v .closed n)))
+blocksOpen N t v = sumTo N (λ n. is (leb (v .opened n) t && ltb t (v .closed n)))
 
 pub record LookSound (b d N t : ℕ) (R : Reader) (v : View) : Type 0 where
   pub few : N ≤ 4096
@@ -86,17 +85,17 @@ module _ {b d N t : ℕ} {R : Reader} {v : View} (s : LookSound b d N t R v) whe
     unfolding allWeigh
     sums w =
         let z = rowsWeigh b t R w in
-        omega (arith, path-rows b t R w N (late w) (y .walked) most, y .sum z (late w), over-upto z m, over-none z m N most (beyond w))
+        omega (arith, path-rows b t R w N (late w) (y .walked) most, y .sum z (late w), sumTo-upto z m, sumTo-none z m N most (beyond w))
 
     -- of the blocks that opened by t, those that outlast t are open at t
-    open-outlast : blocksOpen N t v ≡ over m (outlasts t R)
+    open-outlast : blocksOpen N t v ≡ sumTo m (outlasts t R)
     unfolding blocksOpen outlasts
     open-outlast =
         let z : ℕ → ℕ = λ n. is (leb (v .opened n) t && ltb t (v .closed n)) in
         omega (
           arith,
-          over-same (outlasts t R) z m (λ n p q. rw (le-leb (v .opened n) t (begun n p q), s .agree .closed n p (omega arith))),
-          over-none z m N most (λ n p q. rw (lt-leb (v .opened n) t (later n p q))),
+          sumTo-same (outlasts t R) z m (λ n p q. rw (le-leb (v .opened n) t (begun n p q), s .agree .closed n p (omega arith))),
+          sumTo-none z m N most (λ n p q. rw (lt-leb (v .opened n) t (later n p q))),
         )
 
     half-open : length (y .list) ≤ 2 * blocksOpen N t v
@@ -113,19 +112,19 @@ module _ {b d N t : ℕ} {R : Reader} {v : View} (s : LookSound b d N t R v) whe
               rw e (omega (arith, c .closed n p q, c .closed (v .up n) (omega arith) (omega arith), r .climbs)))
               (y .walked) most (λ p. omega (arith, c .closed m p most, s .lasts m p most (λ h. later (m + 1) (omega arith) (omega arith)))),
           y .sum (outlasts t R) (late-outlasts t R N),
-          over-upto (outlasts t R) m,
+          sumTo-upto (outlasts t R) m,
         )
 
     -- all blocks up to m but m itself no longer take records at t
     dense-rows : (q : ℕ) → ((n : ℕ) → 0 < n → n < N → v .opened (n + 1) ≤ t → t < v .closed n → q ≤ length (rowsIn b t R n))
         → blocksOpen N t v * q ≤ length (y .rows) + q
-    unfolding over outlasts rowsWeigh allWeigh
+    unfolding sumTo outlasts rowsWeigh allWeigh
     dense-rows q useful = rw open-outlast (omega (
       arith,
       total-length (y .rows),
       sums (λ r. 1),
       but-last m (omega arith),
-      over-none (rowsWeigh b t R (λ r. 1)) m N most (beyond (λ r. 1)),
+      sumTo-none (rowsWeigh b t R (λ r. 1)) m N most (beyond (λ r. 1)),
     ))
       where
         one : (n : ℕ) → 0 < n → n < m → outlasts t R n * q ≤ rowsWeigh b t R (λ r. 1) n
@@ -138,11 +137,11 @@ module _ {b d N t : ℕ} {R : Reader} {v : View} (s : LookSound b d N t R v) whe
         at-most true = simp one-mul (omega arith)
         at-most false = simp zero-mul (omega arith)
 
-        but-last : (n : ℕ) → n ≤ m → over n (outlasts t R) * q ≤ over n (rowsWeigh b t R (λ r. 1)) + q
+        but-last : (n : ℕ) → n ≤ m → sumTo n (outlasts t R) * q ≤ sumTo n (rowsWeigh b t R (λ r. 1)) + q
         but-last zero h = simp zero-mul (omega arith)
         but-last (suc n) h = simp add-mul (omega (
           arith,
-          over-times q (outlasts t R) (rowsWeigh b t R (λ r. 1)) n (λ j p i. one j p (omega arith)),
+          sumTo-times q (outlasts t R) (rowsWeigh b t R (λ r. 1)) n (λ j p i. one j p (omega arith)),
           at-most (ltb t (closedOf R (suc n))),
         ))
 
@@ -179,3 +178,15 @@ module _ {b d N t : ℕ} {R : Reader} {v : View} (s : LookSound b d N t R v) whe
       let i : x .rows ≡ r = cc (x .seen) in
       let j : x .list ≡ l = cc (x .seen) in
       rw (i, j) at (x .right)
+
+-- said of the words: the walk is sound, and what it finds is right
+module _ (ws : List ℕ) {t : ℕ} {v : View}
+    (s : LookSound (headOf ws .settings .block) (headOf ws .settings .tags) (headOf ws .cursor .opened) t (reader ws) v) where
+  pub walk-sound : isUnsound (lookAt ws t) ≡ false
+  unfolding lookAt
+  walk-sound = rw (look-answered s .seen)
+
+  pub walk-right : {r : List Row} {l : List ℕ} {ps : List Pass} → lookAt ws t ≡ looked r l ps
+      → RightLook (headOf ws .settings .block) (headOf ws .cursor .opened) t (reader ws) v r l
+  unfolding lookAt
+  walk-right e = look-right s e

@@ -11,7 +11,7 @@ use borrow.Author.Tests.{leb-true, leb-false}
 use Rattle.base.specs.Branch.{cond-all, is?, lt?}
 use Rattle.layout.specs.Sizes.{pageLen}
 use Rattle.calls.specs.Walk.{Reader, Pass, lastUpTo, entries, topLevel, lookUp}
-use Rattle.theory.specs.FoundSearch.{Descent, ground, down, Search, empty, before, onto}
+use Rattle.theory.specs.FoundWalk.{Descent, ground, down, Search, empty, before, onto}
 
 -- ---- one page
 

@@ -10,7 +10,7 @@ use Rattle.base.specs.Branch.{by-test, eqb-same, or-false}
 use Rattle.base.specs.Sums.{All, nil, cons, all-map, all-append}
 use Rattle.calls.specs.Calls.{Call, Start, Set, Clear, Update, Advance, Ask, Row}
 use Rattle.calls.specs.Log.{Log, without, andRow, tells, stateFrom, stateAt, makes, madeFrom, soFar, among}
-use Rattle.theory.specs.Reading.{none, some}
+use Rattle.theory.specs.Timeline.{none, some}
 use Rattle.theory.specs.LogLaws.{readingIn, state-last}
 
 -- a change was made by t

@@ -11,7 +11,7 @@ use native.Mathlib.Nat.{mul-le-mul-right, add-mul}
 use lib.Dec.{eqb, ltb, leb}
 use borrow.Author.Tests.{eqb-false, eq-eqb, ne-eqb, lt-ltb, le-ltb, lt-leb, le-leb}
 use Rattle.base.specs.Branch.{is?, lt?, by-test}
-use Rattle.base.specs.Places.{Lists, none, more}
+use Rattle.base.specs.Ones.{Lists, none, more}
 use Rattle.base.specs.Slots.{bitOf, slots-of}
 use Rattle.layout.specs.declared.settings.Settings.{Settings}
 use Rattle.layout.specs.declared.head.Cursor.{Cursor}
@@ -23,16 +23,14 @@ use Rattle.layout.specs.Memory.{Memory}
 use Rattle.layout.specs.Interp.{Same}
 use Rattle.layout.specs.Head.{placed}
 use Rattle.layout.specs.declared.standing.Standing.{Standing}
-use Rattle.layout.specs.Standing.{stands}
+use Rattle.layout.specs.Standing.{stands, blockBits}
 use Rattle.calls.specs.Placing.{placeOf, blockOf, slotOf}
-use Rattle.calls.specs.Refusals.{opens, acceptorCloses, anyOf, bitsOf, tagBlock, closes, copies, afterClear}
+use Rattle.calls.specs.Refusals.{opens, acceptorCloses, anyOf, tagBlock, closes, copies, afterClear}
 use Rattle.calls.specs.Refusals.{badPlace, badBlock, unsoundSet, unsoundClear}
 use Rattle.theory.specs.Timeline.{Timeline}
-use Rattle.theory.specs.Effects.{view}
-use Rattle.theory.specs.PartEffects.{marksOf}
-use Rattle.theory.specs.Changing.{place-stands, open-block}
-use Rattle.theory.specs.Copies.{headWith, copiesOf}
-use Rattle.theory.specs.Rest.{Rest}
+use Rattle.theory.specs.Effects.{view, marksOf}
+use Rattle.theory.specs.Changing.{place-stands, open-block, PlaceStands}
+use Rattle.theory.specs.Rest.{Rest, headWith, copiesOf}
 
 -- ---- tests that are false
 and-no : (a : Bool) {b : Bool} → b ≡ false → (a && b) ≡ false
@@ -43,17 +41,17 @@ or-no : {a b : Bool} → a ≡ false → b ≡ false → (a || b) ≡ false
 or-no e f = rw (e, f)
 
 -- ---- the bit of a slot, by word
-pub stands-is : (w : ℕ → ℕ) (k : ℕ) → k < 64 → bitOf w k ≡ 1 → stands (record { low = w 0; high = w 1 }) k ≡ true
+pub stands-bit : (w : ℕ → ℕ) (k : ℕ) → k < 64 → stands (record { low = w 0; high = w 1 }) k ≡ eqb (bitOf w k) 1
 unfolding stands
-stands-is w k a h = lt? k 32
+stands-bit w k a = lt? k 32
     (λ b.
     let e : k % 32 ≡ k = omega arith in
     let d : k / 32 ≡ 0 = omega arith in
-    simp (lt-ltb k 32 b, rw (e, d) at h))
+    rw (lt-ltb k 32 b, e, d))
     (λ b.
     let e : k % 32 ≡ k - 32 = omega arith in
     let d : k / 32 ≡ 1 = omega arith in
-    simp (le-ltb k 32 b, rw (e, d) at h))
+    rw (le-ltb k 32 b, e, d))
 
 module _ {s : Settings} {log : Timeline} (c : Cursor) (f : Memory) (i : Rest s log c f) (g : Memory) (same : Same g (Valid s) f) where
   -- ---- an open block
@@ -94,61 +92,58 @@ module _ {s : Settings} {log : Timeline} (c : Cursor) (f : Memory) (i : Rest s l
 
   pub set-sound : unsoundSet (headWith s c) g ≡ false
   unfolding unsoundSet
-  set-sound = acceptor-sound (bitsOf (headWith s c) g (c .opened)) 1
+  set-sound = acceptor-sound (blockBits g (c .opened)) 1
 
   -- ---- a place that the directory has
   module _ (tag : ℕ) (known : tag < s .tags) (d : f (Dir tag) ≢ 0) where
     same-place : g (Dir tag) ≡ f (Dir tag)
     same-place = same .at (Dir tag) known
 
+    abbrev n : ℕ
+    n = blockOf s (f (Dir tag))
+
+    abbrev k : ℕ
+    k = slotOf s (f (Dir tag))
+
+    at-place : PlaceStands s c f tag n k
+    at-place = place-stands c f tag (i .full .state) d
+
+    place-numbered : Numbered s n
+    place-numbered = record { low = at-place .placed .low; high = omega (arith, at-place .placed .high, i .limit) }
+
     -- it is one of the records placed
-    place-low : (n k : ℕ) → f (Dir tag) ≡ placeOf s n k → 1 ≤ n → n ≤ c .opened → k < s .block → (n ≡ c .opened → k < c .fill)
-        → f (Dir tag) ≤ placed (headWith s c)
+    place-low : f (Dir tag) ≤ placed (headWith s c)
     unfolding placed
-    place-low n k e low high slot last =
-        let some : eqb (c .opened) 0 ≡ false = ne-eqb (c .opened) 0 (omega arith) in
+    place-low =
+        let p = at-place .placed in
+        let e : f (Dir tag) ≡ placeOf s n k = ap (λ (y : ℕ). f (Dir y)) (sym (at-place .tagged)) ∙ i .full .state .found .finds n k (at-place .unended) in
+        let some : eqb (c .opened) 0 ≡ false = ne-eqb (c .opened) 0 (omega (arith, p .low, p .high)) in
         is? n (c .opened)
-        (λ z. simp some (let y : (n - 1) * s .block ≡ (c .opened - 1) * s .block = ap (λ (m : ℕ). (m - 1) * s .block) z in omega (arith, last z)))
+        (λ z. simp some (let y : (n - 1) * s .block ≡ (c .opened - 1) * s .block = ap (λ (m : ℕ). (m - 1) * s .block) z in omega (arith, e, p .last z)))
         (λ z.
-        let above : n - 1 + 1 ≤ c .opened - 1 = omega arith in
-        simp some (omega (arith, mul-le-mul-right (s .block) above, add-mul (n - 1) 1 (s .block))))
+        let above : n - 1 + 1 ≤ c .opened - 1 = omega (arith, p .low, p .high) in
+        simp some (omega (arith, e, p .slot, mul-le-mul-right (s .block) above, add-mul (n - 1) 1 (s .block))))
 
     pub place-sound : badPlace (headWith s c) g tag ≡ false
     unfolding badPlace
     place-sound =
-        let st = i .full .state in
-        let n = blockOf s (f (Dir tag)) in
-        let k = slotOf s (f (Dir tag)) in
-        let w = place-stands c f tag st d in
-        let p = w .placed in
-        let nn : Numbered s n = record { low = p .low; high = omega (arith, p .high, i .limit) } in
-        let e : f (Dir tag) ≡ placeOf s n k = ap (λ (y : ℕ). f (Dir y)) (sym (w .tagged)) ∙ st .found .finds n k (w .unended) in
+        let w = at-place in
+        let nn = place-numbered in
         let tagged : eqb (g (Slot n k tagWord)) tag ≡ true =
-        eq-eqb (g (Slot n k tagWord)) tag (same .at (Slot n k tagWord) (nn, p .slot, omega arith) ∙ w .tagged) in
-        let marked = stands-is (marksOf f n) k (omega (arith, p .slot, i .full .within .most)) (st .marked .marks n k (w .unended)) in
-        let bit : stands (bitsOf (headWith s c) g n) k ≡ true = rw (same-bits n 0 nn (omega arith), same-bits n 1 nn (omega arith)) marked in
-        rw same-place (or-no (or-no (le-ltb (placed (headWith s c)) (f (Dir tag)) (place-low n k e (p .low) (p .high) (p .slot) (p .last)))
-        (rw tagged)) (rw bit))
-
-    -- its block is open
-    tag-sound : badBlock (headWith s c) g (tagBlock (headWith s c) f tag) ≡ false
-    tag-sound =
-        let n = blockOf s (f (Dir tag)) in
-        let k = slotOf s (f (Dir tag)) in
-        let w = place-stands c f tag (i .full .state) d in
-        block-sound n (w .placed .low) (w .placed .high) (open-block n k (i .full .state) (w .unended))
+        eq-eqb (g (Slot n k tagWord)) tag (same .at (Slot n k tagWord) (nn, w .placed .slot, omega arith) ∙ w .tagged) in
+        let marked = stands-bit (marksOf f n) k (omega (arith, w .placed .slot, i .full .within .most)) ∙ eq-eqb _ _ (i .full .state .marked .marks n k (w .unended)) in
+        let bit : stands (blockBits g n) k ≡ true = rw (same-bits n 0 nn (omega arith), same-bits n 1 nn (omega arith)) marked in
+        rw same-place (or-no (or-no (le-ltb (placed (headWith s c)) (f (Dir tag)) place-low) (rw tagged)) (rw bit))
 
     pub clear-sound : (more : ℕ) → unsoundClear (headWith s c) g more tag ≡ false
     unfolding unsoundClear
     clear-sound m =
-        let n = tagBlock (headWith s c) g tag in
-        or-no (or-no place-sound (and-no (closes (headWith s c) g n) (rw same-place tag-sound)))
-        (acceptor-sound (afterClear (headWith s c) g tag) (copies (headWith s c) g n + m))
+        let x = tagBlock (headWith s c) g tag in
+        let p = at-place .placed in
+        let open-one : badBlock (headWith s c) g n ≡ false = block-sound n (p .low) (p .high) (open-block n k (i .full .state) (at-place .unended)) in
+        or-no (or-no place-sound (and-no (closes (headWith s c) g x) (rw same-place open-one)))
+        (acceptor-sound (afterClear (headWith s c) g tag) (copies (headWith s c) g x + m))
 
     -- the copies, counted on the words
     pub same-copies : copiesOf s c g tag ≡ copiesOf s c f tag
-    same-copies =
-        let n = blockOf s (f (Dir tag)) in
-        let p = place-stands c f tag (i .full .state) d .placed in
-        let nn : Numbered s n = record { low = p .low; high = omega (arith, p .high, i .limit) } in
-        rw (same-place, same-bits n 0 nn (omega arith), same-bits n 1 nn (omega arith))
+    same-copies = rw (same-place, same-bits n 0 place-numbered (omega arith), same-bits n 1 place-numbered (omega arith))

@@ -17,17 +17,14 @@ use Rattle.layout.specs.Settings.{Within}
 use Rattle.layout.specs.Memory.{Memory, put}
 use Rattle.layout.specs.Program.{runOn}
 use Rattle.calls.specs.Placing.{placeOf, openBlock, unlink, endRecord, putRecord}
-use Rattle.theory.specs.Tree.{View}
-use Rattle.theory.specs.Row.{Linked, Unlinked, unlinked, opened, later}
-use Rattle.theory.specs.Effects.{view, put-is, open-effect}
+use Rattle.theory.specs.Row.{Linked, Unlinked, unlinked, opened, later, Put, View}
+use Rattle.theory.specs.Effects.{view, put-is, open-effect, recordsOf, directoryOf, marksOf, end-records, end-marks, put-records, put-directory}
+use Rattle.theory.specs.Effects.{put-marks, open-directory, open-marks-here, open-marks-other, open-records}
 use Rattle.theory.specs.Times.{Indexed, indexed-open, indexed-same, times, open-enters}
-use Rattle.theory.specs.Reading.{Reading, none, some, logged}
-use Rattle.theory.specs.Records.{Record, Records, Stands, place?, Kept, kept-later, kept-put, kept-end, kept-unlink, kept-open}
-use Rattle.theory.specs.Timeline.{Timeline, Told, told-put, told-end, told-open}
-use Rattle.theory.specs.Directory.{Found, found-put, found-end, found-open}
-use Rattle.theory.specs.Marks.{Marks, Marked, marked-at, marked-open, Pending, pending-slots}
-use Rattle.theory.specs.PartEffects.{recordsOf, directoryOf, marksOf, end-records, end-marks, put-records, put-directory, put-marks}
-use Rattle.theory.specs.PartEffects.{open-directory, open-marks-here, open-marks-other, open-records}
+use Rattle.theory.specs.Records.{Record, Records, Stands, place?, Kept, kept-later, kept-put, kept-end, kept-unlink, kept-open, Found, found-put}
+use Rattle.theory.specs.Records.{found-end, found-open, PutAt, endedAt}
+use Rattle.theory.specs.Timeline.{Timeline, Told, told-put, told-end, told-open, Reading, none, some, logged}
+use Rattle.theory.specs.Marks.{Marks, Marked, marked-at, marked-open, Pending, pending-slots, PutBit}
 
 pub record Shape : Type 0 where
   pub view : View
@@ -113,18 +110,23 @@ module _ {s : Settings} {Due : ℕ → Type 0} {clock : ℕ} {log : Timeline} {S
   pub pending : (x : ℕ) → Within s → Pending (S .records) x 0 (slotsOf (S .marks x 0) (S .marks x 1))
   pending x z = pending-slots x (i .marked) (λ k a w. omega (arith, z .most, i .kept .used x k (omega arith) .slot))
 
-  -- time passes
-  pub state-later : {now : ℕ} → clock ≤ now → now < OPEN → State s Due now log S
-  state-later a b = record {
+  -- the same shape at a later second, of which its records tell another log and others have still to move
+  pub state-as : {Due′ : ℕ → Type 0} {now : ℕ} {log′ : Timeline} → clock ≤ now → now < OPEN → Told (S .records) log′
+      → ((n k : ℕ) → S .view .closed n ≢ OPEN → S .records n k .to ≡ OPEN → Due′ n) → State s Due′ now log′ S
+  state-as a b t d = record {
     past = b;
     links = later (i .links) a;
     index = i .index;
     kept = kept-later (i .kept) a;
     marked = i .marked;
     found = i .found;
-    told = i .told;
-    calm = i .calm;
+    told = t;
+    calm = d;
   }
+
+  -- time passes
+  pub state-later : {now : ℕ} → clock ≤ now → now < OPEN → State s Due now log S
+  state-later a b = state-as a b (i .told) (i .calm)
 
 -- ---- a block leaves the row: its records have still to move
 abbrev pub relinkedShape : Shape → View → Shape
@@ -137,6 +139,25 @@ relinkedShape S w = record {
   opened = S .opened;
   fill = S .fill;
 }
+
+-- other records, bits and directory, with `fill` records in the acceptor; with one more than before; and a block more, which has none
+abbrev pub rewritten : Shape → ℕ → Records → Marks → (ℕ → ℕ) → Shape
+rewritten S fill records marks directory = record {
+  view = S .view;
+  times = S .times;
+  records = records;
+  marks = marks;
+  directory = directory;
+  opened = S .opened;
+  fill = fill;
+}
+
+abbrev pub appended : Shape → Records → Marks → (ℕ → ℕ) → Shape
+appended S records marks directory = rewritten S (S .fill + 1) records marks directory
+
+abbrev pub openedShape : Shape → View → (ℕ → ℕ → ℕ) → Records → Marks → Shape
+openedShape S w times records marks =
+    record { view = w; times = times; records = records; marks = marks; directory = S .directory; opened = S .opened + 1; fill = 0 }
 
 pub unlink-shape : (c : Cursor) (x now : ℕ) (f : Memory)
     → let z = runOn (unlink c x now) f in shape (z .0) (z .1) ≡ relinkedShape (shape c f) (view (z .0) (z .1))
@@ -159,6 +180,44 @@ module _ {s : Settings} where
     calm = λ n k d w. is? n x (λ z. inr z) (λ z. inl (i .calm n k (λ y. d (e .closed .other n z ∙ y)) w));
   }
 
+-- ---- a record begins or ends
+module _ {s : Settings} {Due : ℕ → Type 0} {clock now : ℕ} {log : Timeline} {S : Shape} (i : State s Due clock log S) (passed : clock ≤ now)
+    (ends : now < OPEN) where
+  -- in the acceptor's next slot, under a tag that the directory does not have
+  pub begin-state : {records : Records} {marks : Marks} {directory : ℕ → ℕ} {r : Record} → PutAt (S .records) records (S .opened) (S .fill) r
+      → PutBit (S .marks) marks (S .opened) (S .fill) 1 → Put (S .directory) directory (r .tag) (placeOf s (S .opened) (S .fill)) → r .from ≡ now
+      → r .to ≡ OPEN → r .tag < s .tags → S .directory (r .tag) ≡ 0 → 1 ≤ S .opened → S .fill < s .block
+      → State s Due now (logged now (r .tag) (some (r .reading)) log) (appended S records marks directory)
+  begin-state {r = r} p b d from to known absent low room = record {
+    past = ends;
+    links = later (i .links) passed;
+    index = i .index;
+    kept = kept-put (i .kept) p passed from to known (i .links .opened (S .opened) low (omega arith)) low room ends;
+    marked = marked-at (i .marked) b p (λ z. to) (λ z. refl);
+    found = found-put (i .found) p to (next-unused i) absent d;
+    told = told-put (i .told) p from to (next-unused i) (λ t a o. free i (r .tag) absent t (omega arith) o);
+    calm = λ n k y w. place? (S .opened) (S .fill) n k
+        (λ z _. absurd (y (rw z (i .links .last))))
+        (λ z. i .calm n k y (same-end (p .other n k z) w));
+  }
+
+  -- not after its block's closing
+  pub end-state : {n k : ℕ} {records : Records} {marks : Marks} {directory : ℕ → ℕ} → PutAt (S .records) records n k (endedAt now (S .records n k))
+      → PutBit (S .marks) marks n k 0 → Put (S .directory) directory (S .records n k .tag) 0 → S .records n k .to ≡ OPEN → now ≤ S .view .closed n
+      → State s Due now (logged now (S .records n k .tag) none log) (rewritten S (S .fill) records marks directory)
+  end-state {n} {k} e b d o closes = record {
+    past = ends;
+    links = later (i .links) passed;
+    index = i .index;
+    kept = kept-end (i .kept) e passed closes o ends;
+    marked = marked-at (i .marked) b e (λ z. absurd (omega arith)) (λ z. absurd (omega arith));
+    found = found-end (i .found) e o ends (λ m j v t. alone i n k m j o v t) d;
+    told = told-end (i .told) e (stands-on i n k now o passed ends .begun) o ends;
+    calm = λ m j y w. place? n k m j
+        (λ z z′. let h : now ≡ OPEN = rw (z, z′, e .here) at w in absurd (omega arith))
+        (λ z. i .calm m j y (same-end (e .other m j z) w));
+  }
+
 -- ---- a block opens
 pub open-cursor : (c : Cursor) (now : ℕ) (f : Memory)
     → let d = (runOn (openBlock c now) f) .0 in (d .opened ≡ c .opened + 1) × (d .fill ≡ 0)
@@ -168,15 +227,7 @@ open-cursor c now f =
     (λ t. (refl, refl)) (λ t. (refl, refl))
 
 pub open-shape : (c : Cursor) (now : ℕ) (f : Memory) → let z = runOn (openBlock c now) f in
-    shape (z .0) (z .1) ≡ record {
-      view = view (z .0) (z .1);
-      times = times (z .1);
-      records = recordsOf (z .1);
-      marks = marksOf (z .1);
-      directory = directoryOf f;
-      opened = c .opened + 1;
-      fill = 0;
-    }
+    shape (z .0) (z .1) ≡ openedShape (shape c f) (view (z .0) (z .1)) (times (z .1)) (recordsOf (z .1)) (marksOf (z .1))
 open-shape c now f = let z = runOn (openBlock c now) f in
     λ i. record {
       view = view (z .0) (z .1);
@@ -217,35 +268,12 @@ module _ {s : Settings} {Due : ℕ → Type 0} {clock now : ℕ} {log : Timeline
   pub set-record : (tag reading : ℕ) → 1 ≤ c .opened → c .fill < s .block → tag < s .tags → f (Dir tag) ≡ 0
       → let z = runOn (putRecord s c now tag reading) f in State s Due now (logged now tag (some reading) log) (shape (z .0) (z .1))
   unfolding putRecord
-  set-record tag reading some-block room known d =
-      let p = put-records s c now tag reading f in
-      record {
-        past = ends;
-        links = later (i .links) passed;
-        index = i .index;
-        kept = kept-put (i .kept) p passed refl refl known (i .links .opened (c .opened) some-block (omega arith)) some-block room ends;
-        marked = marked-at (i .marked) (put-marks s c now tag reading f) p (λ z. refl) (λ z. refl);
-        found = found-put (i .found) p refl (next-unused i) d (put-directory s c now tag reading f);
-        told = told-put (i .told) p refl refl (next-unused i) (λ t a b. free i tag d t (omega arith) b);
-        calm = λ n k y w. place? (c .opened) (c .fill) n k
-            (λ z _. absurd (y (rw z (i .links .last))))
-            (λ z. i .calm n k y (same-end (p .other n k z) w));
-      }
+  set-record tag reading low room known d = begin-state i passed ends (put-records s c now tag reading f) (put-marks s c now tag reading f)
+      (put-directory s c now tag reading f) refl refl known d low room
 
   -- ---- a clear: the record ends, and the directory forgets it
   pub clear-record : (n k tag : ℕ) → f (Slot n k toWord) ≡ OPEN → f (Slot n k tagWord) ≡ tag → view c f .closed n ≡ OPEN
       → State s Due now (logged now tag none log) (shape c (clearedAt n k now tag f))
   unfolding endRecord
-  clear-record n k tag o is-tag y =
-      let e = end-records n k now f in
-      let w = stands-on i n k now o passed ends in
-      rw (← is-tag) (record {
-        past = ends;
-        links = later (i .links) passed;
-        index = i .index;
-        kept = kept-end (i .kept) e passed (omega arith) o ends;
-        marked = marked-at (i .marked) (end-marks n k now f) e (λ z. absurd (omega arith)) (λ z. absurd (omega arith));
-        found = found-end (i .found) e o ends (λ m j v t. alone i n k m j o v t) (put-is (directoryOf f) (f (Slot n k tagWord)) 0);
-        told = told-end (i .told) e (w .begun) o ends;
-        calm = λ m j d u. place? n k m j (λ z _. absurd (d (rw z y))) (λ z. i .calm m j d (same-end (e .other m j z) u));
-      })
+  clear-record n k tag o is-tag y = rw (← is-tag)
+      (end-state i passed ends (end-records n k now f) (end-marks n k now f) (put-is (directoryOf f) (f (Slot n k tagWord)) 0) o (omega arith))

@@ -10,12 +10,19 @@ use lib.Dec.{eqb, leb}
 use borrow.Author.Tests.{eqb-true, eqb-false, leb-true, leb-false}
 use Rattle.base.specs.Branch.{by-test, cmp?}
 use Rattle.layout.specs.Sizes.{OPEN}
-use Rattle.theory.specs.Reading.{Reading, none, some, logged}
-use Rattle.theory.specs.Records.{Record, Records, Stands, endedAt, begunAt, place?, PutAt, Emptied}
+use Rattle.theory.specs.Records.{Record, Records, Stands, endedAt, place?, PutAt, Emptied}
 
--- for each second and tag the reading, if any
+-- a log for each second and tag: the reading, if any
+pub data Reading : Type 0 where
+  none : Reading
+  some : ℕ → Reading
+
 abbrev pub Timeline : Type 0
 Timeline = ℕ → ℕ → Reading
+
+-- from second s on the tag has this reading
+abbrev pub logged : ℕ → ℕ → Reading → Timeline → Timeline
+logged s g x l t h = cond (leb s t && eqb g h) x (l t h)
 
 pub record Told (f : Records) (log : Timeline) : Type 0 where
   pub sound : (t n k : ℕ) → t < OPEN → Stands t (f n k) → log t (f n k .tag) ≡ some (f n k .reading)
@@ -143,16 +150,13 @@ told-alike h i = record {
 }
 
 -- ---- a record that stands ends at second now, and begins anew elsewhere: no second tells
-pub told-move : {f g h : Records} {log : Timeline} {x k n j now : ℕ} → Told f log → PutAt f g x k (endedAt now (f x k)) → f x k .from ≤ now
-    → f x k .to ≡ OPEN → now < OPEN → PutAt g h n j (begunAt now (f x k)) → g n j .to ≡ 0 → Told h log
-told-move {f} {log = log} {x} {k} {now = now} i e from to ends p unused =
-    let tag = f x k .tag in
-    told-alike
-    (λ t y o. logged? now tag (some (f x k .reading)) (logged now tag none log) t y (λ v. v ≡ log t y)
+pub moved-log : {f : Records} {log : Timeline} (x k : ℕ) {now : ℕ} → Told f log → f x k .from ≤ now → f x k .to ≡ OPEN → now < OPEN → (t tag : ℕ) → t < OPEN
+    → logged now (f x k .tag) (some (f x k .reading)) (logged now (f x k .tag) none log) t tag ≡ log t tag
+moved-log {f} {log} x k {now} i from to ends t tag o =
+    let g = f x k .tag in
+    logged? now g (some (f x k .reading)) (logged now g none log) t tag (λ v. v ≡ log t tag)
     (λ m q. sym (ap (log t) (sym q) ∙ i .sound t x k o (record { begun = omega arith; lasts = omega arith })))
-    (λ d. logged? now tag none log t y (λ v. v ≡ log t y) (λ m q. absurd (d m q)) (λ _. refl)))
-    (told-put (told-end i e from to ends) p refl refl unused
-    (λ t m o. logged? now tag none log t tag (λ v. v ≡ none) (λ _ _. refl) (λ d. absurd (d m refl))))
+    (λ d. logged? now g none log t tag (λ v. v ≡ log t tag) (λ m q. absurd (d m q)) (λ _. refl))
 
 -- ---- a block that never had a record may be emptied
 pub told-open : {f g : Records} {log : Timeline} {n : ℕ} → Told f log → Emptied f g n → ((k : ℕ) → f n k .to ≡ 0) → Told g log

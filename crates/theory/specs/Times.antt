@@ -32,7 +32,7 @@ pub record Enter (before after : ℕ → ℕ) (m N now : ℕ) : Type 0 where
   pub here : (i : ℕ) → m * i ≡ N → after i ≡ now
   pub other : (i : ℕ) → m * i ≢ N → after i ≡ before i
 
-pub record Entered (before after : ℕ → ℕ → ℕ) (N now : ℕ) : Type 0 where
+pub record TimesEntered (before after : ℕ → ℕ → ℕ) (N now : ℕ) : Type 0 where
   pub each : Enter (before 0) (after 0) 1 N now
   pub pages : Enter (before 1) (after 1) 16 N now
   pub tops : Enter (before 2) (after 2) 256 N now
@@ -49,7 +49,7 @@ level-enter {opened′ = opened′} {m = m} {N} l p e i a = is? (m * i) N
 
 -- a block opens, no earlier than the others
 pub indexed-open : {opened opened′ : ℕ → ℕ} {before after : ℕ → ℕ → ℕ} {N clock now : ℕ} → Indexed opened before N → Put opened opened′ (N + 1) now
-    → Entered before after N now → ((n : ℕ) → 1 ≤ n → n ≤ N → opened n ≤ clock) → clock ≤ now → Indexed opened′ after (N + 1)
+    → TimesEntered before after N now → ((n : ℕ) → 1 ≤ n → n ≤ N → opened n ≤ clock) → clock ≤ now → Indexed opened′ after (N + 1)
 indexed-open {opened′ = opened′} {N = N} {now = now} i p e past later = record {
   rises = λ n a b. is? n N
       (λ z. let new : opened′ (n + 1) ≡ now = rw z (p .here) in omega (arith, p .other n (omega arith), past n a (omega arith)))
@@ -100,7 +100,7 @@ enter-like : {before before′ after after′ : ℕ → ℕ} {m n now : ℕ} →
     → Enter before after m n now → Enter before′ after′ m n now
 enter-like b a e = record { here = λ i h. a i ∙ e .here i h; other = λ i d. a i ∙ e .other i d ∙ b i }
 
-time-enters : (n now : ℕ) (f : Memory) → Entered (times f) (times ((runOn (enterTime n now) f) .1)) n now
+time-enters : (n now : ℕ) (f : Memory) → TimesEntered (times f) (times ((runOn (enterTime n now) f) .1)) n now
 unfolding enterTime
 time-enters n now f =
     let g = put f (Time 0 n) now in
@@ -116,8 +116,8 @@ time-enters n now f =
     }
 
 -- the rest of an opening leaves the index
-pub open-enters : (c : Cursor) (now : ℕ) (f : Memory) → Entered (times f) (times ((runOn (openBlock c now) f) .1)) (c .opened) now
+pub open-enters : (c : Cursor) (now : ℕ) (f : Memory) → TimesEntered (times f) (times ((runOn (openBlock c now) f) .1)) (c .opened) now
 unfolding openBlock
 open-enters c now f =
-    cond-all (λ (z : Cursor × Memory). Entered (times f) (times (z .1)) (c .opened) now) (eqb (c .opened) 0)
+    cond-all (λ (z : Cursor × Memory). TimesEntered (times f) (times (z .1)) (c .opened) now) (eqb (c .opened) 0)
     (λ e. time-enters (c .opened) now f) (λ e. time-enters (c .opened) now f)

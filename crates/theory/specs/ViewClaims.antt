@@ -22,7 +22,7 @@ use Rattle.calls.specs.LookBack.{SliceReply, reader, lookAt, lookBack, viewOf, 
 use Rattle.calls.specs.Step.{step}
 use Rattle.calls.specs.Claims.{passedPages}
 use Rattle.theory.specs.Listed.{path-apart}
-use Rattle.theory.specs.Looking.{look-parts}
+use Rattle.theory.specs.FoundWalk.{look-parts}
 use Rattle.theory.specs.Passes.{passes-counted}
 
 -- ---- a look-back that is answered
@@ -84,8 +84,8 @@ module _ (ws : List ℕ) (t : ℕ) (rows list : List ℕ) (v : View) where
             reply = rw (i, x .0);
           })
 
--- A head that passed has at most 4,096 blocks.
-pub few-blocks : (ws : List ℕ) → badHead ws ≡ false → headOf ws .cursor .opened ≤ 4096
+-- A head that passed has opened at most B blocks, and B is at most 4,096.
+pub few-blocks : (ws : List ℕ) → badHead ws ≡ false → let h = headOf ws in (h .cursor .opened ≤ h .settings .blocks) × (h .settings .blocks ≤ 4096)
 unfolding badHead
 few-blocks ws e =
     let h = headOf ws in
@@ -94,8 +94,7 @@ few-blocks ws e =
     let clock = or-false _ (eqb (h .cursor .clock) OPEN) (spare .0) in
     let blocks = or-false _ (ltb (h .settings .blocks) (h .cursor .opened)) (clock .0) in
     let limits = or-false (not (eqb (getD ws headMark 0) mark)) (not (inLimits (h .settings))) (blocks .0) in
-    let most : h .cursor .opened ≤ h .settings .blocks = ltb-false _ _ (blocks .1) in
-    omega (arith, limits-within (h .settings) (not-false _ (limits .1)) .blocks)
+    (ltb-false _ _ (blocks .1), limits-within (h .settings) (not-false _ (limits .1)) .blocks)
 
 -- ---- what the view says by itself
 
@@ -113,7 +112,7 @@ view-claims ws t rows list v e =
     let x = shown-seen ws t rows list v e in
     let h = headOf ws in
     let few = few-blocks ws (x .passed) in
-    let counted = passes-counted (h .settings .block) (h .settings .tags) (h .cursor .opened) t (reader ws) few (x .walked) in
+    let counted = passes-counted (h .settings .block) (h .settings .tags) (h .cursor .opened) t (reader ws) (omega (arith, few .0, few .1)) (x .walked) in
     record {
       walk = (x .passes, x .walked, x .view);
       listed-once = once-nodup (path-apart (h .settings .block) t (reader ws) (look-parts (x .walked) .walked) .once);

@@ -1,21 +1,22 @@
 -- WHAT A LOOK-BACK ANSWERS IN CODE, and the words that it leaves: those of the definition (calls, `lookBack`), on any words and any two buffers.
 use mathlib.Core.Path.{_≡_}
-use mathlib.Core.Bool.{_||_}
+use mathlib.Core.Bool.{Bool, false, cond, _||_}
 use mathlib.Core.List.{List, [], _∷_}
-use Prim.Native.Nat.{ℕ, _*_}
-use lib.Dec.{ltb}
+use Prim.Native.Nat.{ℕ, _*_, _≤_}
+use lib.Dec.{eqb, ltb}
 use lib.ListN.{getD}
 use Rattle.layout.specs.declared.head.Head.{Head}
 use Rattle.layout.specs.Sizes.{OPEN, rowLen, layoutLen}
+use Rattle.layout.specs.RefusalNumbers.{SHORT-STORE, TIME-OPEN, LATE, SHORT-BUFFER, UNSOUND}
 use Rattle.calls.specs.Calls.{Row, View, Answer, Shown, Refused as RefusedBy}
-use Rattle.calls.specs.Walk.{Pass, Looked as LookedAt, unsoundly, looked}
-use Rattle.calls.specs.Refusals.{Test, isOpen}
+use Rattle.calls.specs.Walk.{Pass, Looked, unsoundly, looked}
+use Rattle.calls.specs.Refusals.{Test, refusal, isOpen}
 use Rattle.calls.specs.LookBack.{lookBack, lookAt, seen, viewOf, rowWords, written}
 use Rattle.timeslice.specs.declared.Slice.{Slice}
-use Rattle.timeslice.specs.declared.Looked.{Looked}
-use Rattle.timeslice.specs.declared.Looked.the-variants.{Answered, Refused}
-use Rattle.timeslice.specs.declared.Sliced.{Sliced}
-use Rattle.timeslice.specs.declared.Sliced.the-variants.{Whole, Unsound}
+use Rattle.timeslice.specs.declared.SliceAnswer.{SliceAnswer}
+use Rattle.timeslice.specs.declared.SliceAnswer.the-variants.{Answered, Refused}
+use Rattle.timeslice.specs.declared.WalkAnswer.{WalkAnswer}
+use Rattle.timeslice.specs.declared.WalkAnswer.the-variants.{Whole, Unsound}
 
 -- a view's three numbers, and its page on each of the three levels
 abbrev pub sliceOf : View → Slice
@@ -27,33 +28,47 @@ sliceOf v = record {
 }
 
 -- A view is answered, a refusal has its number. No look-back answers with a head.
-pub data Says : Answer → Looked → Type 0 where
+pub data Says : Answer → SliceAnswer → Type 0 where
   view : {v : View} {s : Slice} → s ≡ sliceOf v → Says (Shown v) (Answered s)
   number : {n : ℕ} → Says (RefusedBy n) (Refused n)
 
 -- The contract: the answer, and both buffers as the call leaves them. (The store is lent to be read only.)
-pub record LookedBack (ws : List ℕ) (t : ℕ) (rows list : List ℕ) (r : Looked) (rows′ list′ : List ℕ) : Type 0 where
+pub record LookedBack (ws : List ℕ) (t : ℕ) (rows list : List ℕ) (r : SliceAnswer) (rows′ list′ : List ℕ) : Type 0 where
   pub answer : Says (lookBack ws t rows list .answer) r
   pub row-words : rows′ ≡ lookBack ws t rows list .rows
   pub list-words : list′ ≡ lookBack ws t rows list .list
 
 -- ---- the parts
 -- what the walk over the words says: its rows and list at the start of the buffers, or that it is unsound, the buffers being anything
-pub data Slices (w : LookedAt) (rows list : List ℕ) : Sliced → List ℕ → List ℕ → Type 0 where
+pub data WalkSays (w : Looked) (rows list : List ℕ) : WalkAnswer → List ℕ → List ℕ → Type 0 where
   whole : {r : List Row} {l : List ℕ} {ps : List Pass} {s : Slice} {rows′ list′ : List ℕ} → w ≡ looked r l ps → s ≡ sliceOf (viewOf r l ps)
-      → rows′ ≡ written (rowWords r) rows → list′ ≡ written l list → Slices w rows list (Whole s) rows′ list′
-  broken : {rows′ list′ : List ℕ} → w ≡ unsoundly → Slices w rows list Unsound rows′ list′
+      → rows′ ≡ written (rowWords r) rows → list′ ≡ written l list → WalkSays w rows list (Whole s) rows′ list′
+  broken : {rows′ list′ : List ℕ} → w ≡ unsoundly → WalkSays w rows list Unsound rows′ list′
 
 -- a look-back to which no refusal but 12 applies
-pub record Answers (ws : List ℕ) (t : ℕ) (rows list : List ℕ) (r : Looked) (rows′ list′ : List ℕ) : Type 0 where
+pub record Answers (ws : List ℕ) (t : ℕ) (rows list : List ℕ) (r : SliceAnswer) (rows′ list′ : List ℕ) : Type 0 where
   pub answer : Says (seen rows list (lookAt ws t) .answer) r
   pub row-words : rows′ ≡ seen rows list (lookAt ws t) .rows
   pub list-words : list′ ≡ seen rows list (lookAt ws t) .list
 
--- the refusals between the head's and the walk's, for a store, a row buffer and a list of these lengths
-abbrev pub ownTests : Head → ℕ → ℕ → ℕ → ℕ → List Test
-ownTests h words t rows list =
-    record { number = 4; applies = ltb words (layoutLen (h .settings)) }
-    ∷ record { number = 5; applies = isOpen t }
-    ∷ record { number = 7; applies = ltb (h .cursor .clock) t }
-    ∷ record { number = 11; applies = ltb rows (rowLen * h .settings .tags) || ltb list (h .settings .blocks) } ∷ []
+-- the refusals after the head's, for a store, a row buffer and a list of these lengths; the last is the walk's
+abbrev pub ownTests : Head → ℕ → ℕ → ℕ → ℕ → Bool → List Test
+ownTests h words t rows list unsound =
+    record { number = SHORT-STORE; applies = ltb words (layoutLen (h .settings)) }
+    ∷ record { number = TIME-OPEN; applies = isOpen t }
+    ∷ record { number = LATE; applies = ltb (h .cursor .clock) t }
+    ∷ record { number = SHORT-BUFFER; applies = ltb rows (rowLen * h .settings .tags) || ltb list (h .settings .blocks) }
+    ∷ record { number = UNSOUND; applies = unsound } ∷ []
+
+-- none of them but the walk's applies, so that the store and both buffers are long enough
+pub record OwnNone (h : Head) (words t rows list : ℕ) : Type 0 where
+  pub long : layoutLen (h .settings) ≤ words
+  pub long-rows : rowLen * h .settings .tags ≤ rows
+  pub long-list : h .settings .blocks ≤ list
+  pub left : (unsound : Bool) → refusal (ownTests h words t rows list unsound) ≡ cond unsound UNSOUND 0
+
+-- what they come to before the walk: n is the first of 4, 5, 7 and 11 that applies, whatever the walk says; or 0
+pub data OwnRefusal (h : Head) (words t rows list : ℕ) : ℕ → Type 0 where
+  turned : {n : ℕ} → ((unsound : Bool) → refusal (ownTests h words t rows list unsound) ≡ n) → (eqb n 0 || eqb n UNSOUND) ≡ false
+      → OwnRefusal h words t rows list n
+  free : OwnNone h words t rows list → OwnRefusal h words t rows list 0

@@ -2,29 +2,31 @@
 use mathlib.Core.Path.{_≡_, refl, sym, ap, _∙_}
 use mathlib.Core.Bool.{Bool, true, false, cond, _||_}
 use mathlib.Core.List.{List}
-use Prim.Native.Nat.{ℕ, suc, _+_, _*_, _≤_}
+use Prim.Native.Nat.{ℕ, suc, _+_, _≤_}
 use native.Mathlib.Omega.{arith}
 use lib.Dec.{eqb, ltb}
 use lib.ListN.{length}
 use lib.Seq.{sets, sets-eq}
-use borrow.Author.Tests.{lt-ltb, le-ltb, ltb-false}
-use Rattle.base.specs.Branch.{by-test, or-false}
+use borrow.Author.Tests.{eq-eqb, ne-eqb, lt-ltb, le-ltb}
+use Rattle.base.specs.Branch.{by-test}
 use Rattle.layout.specs.declared.head.Head.{Head}
 use Rattle.layout.specs.declared.head.HeadAnswer.the-variants.{Read, Refused as HeadRefused}
-use Rattle.layout.specs.Sizes.{headLen, rowLen, layoutLen}
+use Rattle.layout.specs.Sizes.{OPEN, headLen}
+use Rattle.layout.specs.RefusalNumbers.{SHORT-HEAD, HEAD, UNSOUND}
+use Rattle.layout.specs.SettingsLaws.{within-limits}
 use Rattle.layout.specs.Head.{badHead, headAnswer, headOf}
-use Rattle.layout.specs.HeadLaws.{HeadRead, read-again}
+use Rattle.layout.specs.HeadLaws.{HeadRead, bad-head, rule-fill}
 use Rattle.layout.specs.OnWords.{fits-held}
 use Rattle.calls.specs.Calls.{Row, Refused as RefusedBy}
-use Rattle.calls.specs.Walk.{Reader, Finding, found, Pass, Walk, unsound, path, search, Looked as LookedAt, unsoundly, looked, within, look}
-use Rattle.calls.specs.Refusals.{refusal, lookBackTests, isOpen}
+use Rattle.calls.specs.Walk.{Reader, Finding, found, Pass, Walk, unsound, path, search, Looked, unsoundly, looked, within, look}
+use Rattle.calls.specs.Refusals.{refusal, lookBackTests}
 use Rattle.calls.specs.LookBack.{lookBack, lookAt, seen, viewOf, rowWords, written, zeros, isUnsound, reader, passedOn}
 use Rattle.timeslice.specs.declared.Counts.{Counts}
 use Rattle.timeslice.specs.declared.Slice.{Slice}
-use Rattle.timeslice.specs.declared.Looked.{Looked}
-use Rattle.timeslice.specs.declared.Looked.the-variants.{Answered, Refused}
-use Rattle.timeslice.specs.declared.Sliced.{Sliced}
-use Rattle.timeslice.specs.declared.Sliced.the-variants.{Whole, Unsound}
+use Rattle.timeslice.specs.declared.SliceAnswer.{SliceAnswer}
+use Rattle.timeslice.specs.declared.SliceAnswer.the-variants.{Answered, Refused}
+use Rattle.timeslice.specs.declared.WalkAnswer.{WalkAnswer}
+use Rattle.timeslice.specs.declared.WalkAnswer.the-variants.{Whole, Unsound}
 use Rattle.timeslice.specs.declared.index.PathStart.{PathStart}
 use Rattle.timeslice.specs.declared.index.Searched.{Searched}
 use Rattle.timeslice.specs.declared.index.Searched.the-variants.{At, Unsound as Nowhere}
@@ -37,125 +39,73 @@ use Rattle.timeslice.specs.PathLaws.{path-short}
 use Rattle.timeslice.specs.VisitLaws.{short-found}
 use Rattle.timeslice.specs.Searching.{pathStart, searchedOf}
 use Rattle.timeslice.specs.SearchLaws.{search-few}
-use Rattle.timeslice.specs.Answer.{sliceOf, view, number, LookedBack, Slices, whole, broken, Answers, ownTests}
-
--- ---- the first of four tests, and of five
-abbrev first : Bool → Bool → Bool → Bool → ℕ
-first a b c d = cond a 4 (cond b 5 (cond c 7 (cond d 11 0)))
-
-abbrev firstOf : Bool → Bool → Bool → Bool → Bool → ℕ
-firstOf a b c d e = cond a 4 (cond b 5 (cond c 7 (cond d 11 (cond e 12 0))))
-
-none-applies : (a b c d : Bool) → first a b c d ≡ 0 → (a ≡ false) × (b ≡ false) × (c ≡ false) × (d ≡ false)
-none-applies true b c d e = absurd (omega arith)
-none-applies false true c d e = absurd (omega arith)
-none-applies false false true d e = absurd (omega arith)
-none-applies false false false true e = absurd (omega arith)
-none-applies false false false false e = (refl, refl, refl, refl)
-
--- none of the four: the answer is the walk's
-then-seen : (a b c d e : Bool) → first a b c d ≡ 0 → (eqb (firstOf a b c d e) 0 || eqb (firstOf a b c d e) 12) ≡ true
-then-seen true b c d e q = absurd (omega arith)
-then-seen false true c d e q = absurd (omega arith)
-then-seen false false true d e q = absurd (omega arith)
-then-seen false false false true e q = absurd (omega arith)
-then-seen false false false false true q = refl
-then-seen false false false false false q = refl
-
--- one of the four: it is the answer
-then-refused : (a b c d e : Bool) → (first a b c d ≡ 0 → ⊥)
-    → (firstOf a b c d e ≡ first a b c d) × ((eqb (firstOf a b c d e) 0 || eqb (firstOf a b c d e) 12) ≡ false)
-then-refused true b c d e q = (refl, refl)
-then-refused false true c d e q = (refl, refl)
-then-refused false false true d e q = (refl, refl)
-then-refused false false false true e q = (refl, refl)
-then-refused false false false false e q = absurd (q refl)
+use Rattle.timeslice.specs.Answer.{sliceOf, view, number, LookedBack, WalkSays, whole, broken, Answers, ownTests, OwnNone, OwnRefusal, turned, free}
 
 -- ---- the whole call, by its first refusal
-module _ (ws : List ℕ) (t : ℕ) (rows list : List ℕ) where
-  abbrev unsoundHere : Bool
-  unsoundHere = isUnsound (lookAt ws t)
+-- none but the walk's
+walk-only : (u : Bool) → (eqb (cond u UNSOUND 0) 0 || eqb (cond u UNSOUND 0) UNSOUND) ≡ true
+walk-only true = refl
+walk-only false = refl
 
-  refused-is : (n : ℕ) → refusal (lookBackTests ws t (length rows) (length list) unsoundHere) ≡ n → (eqb n 0 || eqb n 12) ≡ false
-      → LookedBack ws t rows list (Refused n) rows list
+module _ (ws : List ℕ) (t : ℕ) (rows list : List ℕ) where
+  abbrev first : ℕ
+  first = refusal (lookBackTests ws t (length rows) (length list) (isUnsound (lookAt ws t)))
+
+  refused-is : (n : ℕ) → first ≡ n → (eqb n 0 || eqb n UNSOUND) ≡ false → LookedBack ws t rows list (Refused n) rows list
   unfolding lookBack
   refused-is n q f =
       let e : lookBack ws t rows list ≡ record { answer = RefusedBy n; rows = rows; list = list } = rw (q, f) in
       record { answer = rw e number; row-words = rw e; list-words = rw e }
 
-  seen-is : (eqb (refusal (lookBackTests ws t (length rows) (length list) unsoundHere)) 0
-      || eqb (refusal (lookBackTests ws t (length rows) (length list) unsoundHere)) 12) ≡ true
-      → {r : Looked} {rows′ list′ : List ℕ} → Answers ws t rows list r rows′ list′ → LookedBack ws t rows list r rows′ list′
+  seen-is : first ≡ cond (isUnsound (lookAt ws t)) UNSOUND 0 → {r : SliceAnswer} {rows′ list′ : List ℕ} → Answers ws t rows list r rows′ list′
+      → LookedBack ws t rows list r rows′ list′
   unfolding lookBack
   seen-is q a =
-      let e : lookBack ws t rows list ≡ seen rows list (lookAt ws t) = rw q in
+      let e : lookBack ws t rows list ≡ seen rows list (lookAt ws t) = rw (q, walk-only (isUnsound (lookAt ws t))) in
       record { answer = rw e (a .answer); row-words = a .row-words ∙ rw e; list-words = a .list-words ∙ rw e }
 
   -- The head is refused.
   pub head-refused : {n : ℕ} → headAnswer ws ≡ HeadRefused n → LookedBack ws t rows list (Refused n) rows list
   unfolding headAnswer
   head-refused {n} = by-test (ltb (length ws) headLen)
-      (λ b. cond b (HeadRefused 2) (cond (badHead ws) (HeadRefused 3) (Read (headOf ws))) ≡ HeadRefused n → LookedBack ws t rows list (Refused n) rows list)
-      (λ e q. let z : n ≡ 2 = cc in rw z (refused-is 2 (rw e) refl))
+      (λ b. cond b (HeadRefused SHORT-HEAD) (cond (badHead ws) (HeadRefused HEAD) (Read (headOf ws))) ≡ HeadRefused n
+      → LookedBack ws t rows list (Refused n) rows list)
+      (λ e q. let z : n ≡ SHORT-HEAD = cc in rw z (refused-is SHORT-HEAD (rw e) refl))
       (λ e. by-test (badHead ws)
-      (λ b. cond b (HeadRefused 3) (Read (headOf ws)) ≡ HeadRefused n → LookedBack ws t rows list (Refused n) rows list)
-      (λ g q. let z : n ≡ 3 = cc in rw z (refused-is 3 (rw (e, g)) refl))
+      (λ b. cond b (HeadRefused HEAD) (Read (headOf ws)) ≡ HeadRefused n → LookedBack ws t rows list (Refused n) rows list)
+      (λ g q. let z : n ≡ HEAD = cc in rw z (refused-is HEAD (rw (e, g)) refl))
       (λ g q. absurd (let z : _≡_ {A = ℕ} 0 1 = cc in omega arith)))
 
--- A head that was read passes refusals 2 and 3.
-head-passes : (ws : List ℕ) {h : Head} → headAnswer ws ≡ Read h → (ltb (length ws) headLen ≡ false) × (badHead ws ≡ false)
-unfolding headAnswer
-head-passes ws {h} = by-test (ltb (length ws) headLen)
-    (λ b. cond b (HeadRefused 2) (cond (badHead ws) (HeadRefused 3) (Read (headOf ws))) ≡ Read h → (b ≡ false) × (badHead ws ≡ false))
-    (λ e q. absurd (let z : _≡_ {A = ℕ} 0 1 = cc in omega arith))
-    (λ e. by-test (badHead ws)
-    (λ b. cond b (HeadRefused 3) (Read (headOf ws)) ≡ Read h → (false ≡ false) × (b ≡ false))
-    (λ g q. absurd (let z : _≡_ {A = ℕ} 0 1 = cc in omega arith))
-    (λ g q. (refl, refl)))
+-- A head that was read passes refusals 2 and 3, so that the call's own tests decide.
+own-decide : {ws : List ℕ} {h : Head} → HeadRead ws h → (t : ℕ) (rows list : List ℕ)
+    → first ws t rows list ≡ refusal (ownTests h (length ws) t (length rows) (length list) (isUnsound (lookAt ws t)))
+own-decide {ws} {h} read t rows list =
+    let g = read .sound in
+    let b : badHead ws ≡ false = bad-head ws (read .is) (eq-eqb _ _ (read .marked)) (within-limits _ (g .within)) (le-ltb _ _ (g .opened))
+    (ne-eqb (h .cursor .clock) OPEN (λ e. omega (arith, g .clock))) (read .spare) (rule-fill h g) in
+    rw (le-ltb _ _ (read .long), b, ← (read .is))
 
-module _ {ws : List ℕ} {h : Head} (read : HeadRead ws h) (t : ℕ) (rows list : List ℕ) where
-  -- the four tests on this head
-  abbrev short : Bool
-  short = ltb (length ws) (layoutLen (h .settings))
+-- One of them applies,
+pub own-refused : {ws : List ℕ} {h : Head} {t : ℕ} {rows list : List ℕ} {n : ℕ} → HeadRead ws h → OwnRefusal h (length ws) t (length rows) (length list) n
+    → (n ≡ 0 → ⊥) → LookedBack ws t rows list (Refused n) rows list
+own-refused {ws} {h} {t} {rows} {list} {n} read (turned q e) z = refused-is ws t rows list n (own-decide read t rows list ∙ q (isUnsound (lookAt ws t))) e
+own-refused read (free p) z = absurd (z refl)
 
-  abbrev late : Bool
-  late = ltb (h .cursor .clock) t
+-- or none does,
+pub own-free : {h : Head} {words t rows list n : ℕ} → OwnRefusal h words t rows list n → n ≡ 0 → OwnNone h words t rows list
+own-free (turned q e) z = absurd (let y : true ≡ false = rw z at e in let x : _≡_ {A = ℕ} 0 1 = cc in omega arith)
+own-free (free p) z = p
 
-  abbrev small : Bool
-  small = ltb (length rows) (rowLen * h .settings .tags) || ltb (length list) (h .settings .blocks)
+-- and the walk may run: its answer is the call's.
+pub read-ready : {ws : List ℕ} {h : Head} {t rows list : ℕ} → HeadRead ws h → OwnNone h (length ws) t rows list → Readable ws h
+read-ready read p = record { is = read .is; sound = read .sound; held = fits-held (record { long = p .long }) (read .sound .within) }
 
-  tests-are : refusal (lookBackTests ws t (length rows) (length list) (isUnsound (lookAt ws t))) ≡ firstOf short (isOpen t) late small (isUnsound (lookAt ws t))
-  tests-are =
-      let p = head-passes ws (read-again ws read) in
-      rw (p .0, p .1, ← (read .is))
+pub buffers-ready : {h : Head} {words t : ℕ} {rows list : List ℕ} → OwnNone h words t (length rows) (length list) → Buffers (h .settings) rows list
+buffers-ready p = record { long-rows = p .long-rows; long-list = p .long-list }
 
-  module _ {n : ℕ} (own : n ≡ refusal (ownTests h (length ws) t (length rows) (length list))) where
-    -- One of its own tests applies,
-    pub own-refused : (n ≡ 0 → ⊥) → LookedBack ws t rows list (Refused n) rows list
-    own-refused z =
-        let q = then-refused short (isOpen t) late small (isUnsound (lookAt ws t)) (λ e. z (own ∙ e)) in
-        let e : refusal (lookBackTests ws t (length rows) (length list) (isUnsound (lookAt ws t))) ≡ n = tests-are ∙ q .0 ∙ sym own in
-        refused-is ws t rows list n e (rw (← (sym own), ← (q .0)) (q .1))
-
-    -- or none does, and the walk may run.
-    module _ (z : n ≡ 0) where
-      none : (short ≡ false) × (isOpen t ≡ false) × (late ≡ false) × (small ≡ false)
-      none = none-applies short (isOpen t) late small (sym own ∙ z)
-
-      pub own-passed : {r : Looked} {rows′ list′ : List ℕ} → Answers ws t rows list r rows′ list′ → LookedBack ws t rows list r rows′ list′
-      own-passed a = seen-is ws t rows list (rw tests-are (then-seen short (isOpen t) late small (isUnsound (lookAt ws t)) (sym own ∙ z))) a
-
-      pub read-ready : Readable ws h
-      read-ready = record {
-        is = read .is;
-        sound = read .sound;
-        held = fits-held (record { long = ltb-false _ _ (none .0) }) (read .sound .within);
-      }
-
-      pub buffers-ready : Buffers (h .settings) rows list
-      buffers-ready =
-          let p = or-false (ltb (length rows) (rowLen * h .settings .tags)) (ltb (length list) (h .settings .blocks)) (none .3) in
-          record { long-rows = ltb-false _ _ (p .0); long-list = ltb-false _ _ (p .1) }
+pub own-passed : {ws : List ℕ} {h : Head} {t : ℕ} {rows list : List ℕ} {r : SliceAnswer} {rows′ list′ : List ℕ} → HeadRead ws h
+    → OwnNone h (length ws) t (length rows) (length list) → Answers ws t rows list r rows′ list′ → LookedBack ws t rows list r rows′ list′
+own-passed {ws} {t = t} {rows} {list} read p a = seen-is ws t rows list (own-decide read t rows list ∙ p .left (isUnsound (lookAt ws t))) a
 
 -- ---- search and path
 -- what was searched, taken apart
@@ -198,8 +148,8 @@ look-found : (b d opened t : ℕ) (R : Reader) {n : ℕ} {r : List Row} {l : Lis
 unfolding look
 look-found b d opened t R {r = r} p w h = rw (p, w, le-ltb d (length r) h)
 
--- The record of the first counts: none but the pages read.
-abbrev pub none-yet : ℕ → Counts
+-- the first counts: none but the pages read
+abbrev none-yet : ℕ → Counts
 none-yet read = record { rows = 0; pages = read; blocks = 0 }
 
 module _ {ws : List ℕ} {h : Head} (ready : Readable ws h) (t : ℕ) where
@@ -208,7 +158,7 @@ module _ {ws : List ℕ} {h : Head} (ready : Readable ws h) (t : ℕ) where
   look-is = rw (ready .is)
 
   module _ {x : Searched} (searched : x ≡ searchedOf (search t (h .cursor .opened) (reader ws))) (rows list : List ℕ) where
-    pub slices-nowhere : x ≡ Nowhere → Slices (lookAt ws t) rows list Unsound rows list
+    pub slices-nowhere : x ≡ Nowhere → WalkSays (lookAt ws t) rows list Unsound rows list
     unfolding look
     slices-nowhere n =
         let p : search t (h .cursor .opened) (reader ws) ≡ unsound = searched-nowhere _ (sym searched ∙ n) in
@@ -226,14 +176,14 @@ module _ {ws : List ℕ} {h : Head} (ready : Readable ws h) (t : ℕ) where
           }
 
       module _ {a : Walked} {rows′ list′ : List ℕ} (told : PathTold (h .settings) t (reader ws) (s .block) rows list (none-yet (s .read)) a rows′ list′) where
-        pub slices-unsound : a ≡ Stopped → Slices (lookAt ws t) rows list Unsound rows′ list′
+        pub slices-unsound : a ≡ Stopped → WalkSays (lookAt ws t) rows list Unsound rows′ list′
         unfolding look
         slices-unsound e =
             let (ps, p, q) = searched-at (search t (h .cursor .opened) (reader ws)) (sym searched ∙ n) in
             broken (look-is ∙ rw p (told-unsound ps refl (rw e at (told .told (suc (s .block)) (omega arith)))))
 
         pub slices-whole : Buffers (h .settings) rows list → {m : Counts} → a ≡ Done m
-            → Slices (lookAt ws t) rows list (Whole (record { counts = m; page0 = s .page0; page1 = s .page1; page2 = s .page2 })) rows′ list′
+            → WalkSays (lookAt ws t) rows list (Whole (record { counts = m; page0 = s .page0; page1 = s .page1; page2 = s .page2 })) rows′ list′
         slices-whole b {m} e =
             let (ps, p, q) = searched-at (search t (h .cursor .opened) (reader ws)) (sym searched ∙ n) in
             let (r, l, w, f) = told-found (rw e at (told .told (suc (s .block)) (omega arith))) in
@@ -249,22 +199,22 @@ module _ {ws : List ℕ} {h : Head} (ready : Readable ws h) (t : ℕ) where
             (f .list-words ∙ sets-written l list all-blocks)
 
 -- ---- what was seen is answered
-slices-as : {w : LookedAt} {rows list rows′ list′ : List ℕ} {x y : Sliced} → Slices w rows list x rows′ list′ → x ≡ y → Slices w rows list y rows′ list′
+slices-as : {w : Looked} {rows list rows′ list′ : List ℕ} {x y : WalkAnswer} → WalkSays w rows list x rows′ list′ → x ≡ y → WalkSays w rows list y rows′ list′
 slices-as a e = rw (← e) a
 
-module _ {ws : List ℕ} {t : ℕ} {rows list : List ℕ} {x : Sliced} {rows₁ list₁ : List ℕ} (sliced : Slices (lookAt ws t) rows list x rows₁ list₁) where
-  answers-whole : {s : Slice} → Slices (lookAt ws t) rows list (Whole s) rows₁ list₁ → Answers ws t rows list (Answered s) rows₁ list₁
+module _ {ws : List ℕ} {t : ℕ} {rows list : List ℕ} {x : WalkAnswer} {rows₁ list₁ : List ℕ} (sliced : WalkSays (lookAt ws t) rows list x rows₁ list₁) where
+  answers-whole : {s : Slice} → WalkSays (lookAt ws t) rows list (Whole s) rows₁ list₁ → Answers ws t rows list (Answered s) rows₁ list₁
   answers-whole (whole w e p q) = record { answer = rw w (view e); row-words = rw w p; list-words = rw w q }
 
   pub answer-whole : {s : Slice} → x ≡ Whole s → Answers ws t rows list (Answered s) rows₁ list₁
   answer-whole e = answers-whole (slices-as sliced e)
 
-  answers-broken : Slices (lookAt ws t) rows list Unsound rows₁ list₁ → Answers ws t rows list (Refused 12) (zeros rows) (zeros list)
+  answers-broken : WalkSays (lookAt ws t) rows list Unsound rows₁ list₁ → Answers ws t rows list (Refused UNSOUND) (zeros rows) (zeros list)
   answers-broken (broken w) = record { answer = rw w number; row-words = rw w; list-words = rw w }
 
   -- both buffers are filled with zeros, as long as they were
   pub answer-broken : x ≡ Unsound → length rows₁ ≡ length rows → length list₁ ≡ length list → {rows₂ list₂ : List ℕ} → rows₂ ≡ zeros rows₁ → list₂ ≡ zeros list₁
-      → Answers ws t rows list (Refused 12) rows₂ list₂
+      → Answers ws t rows list (Refused UNSOUND) rows₂ list₂
   answer-broken e same-rows same-list p q =
       let z = answers-broken (slices-as sliced e) in
       rw (p, q, same-rows, same-list) z

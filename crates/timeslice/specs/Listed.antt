@@ -44,11 +44,11 @@ pub record InsideListed (s : Settings) (t : ℕ) (R : Reader) (lower upper numbe
       → Listed list n (andThen (visit (s .block) t R f number upper (childOf R number)) (visit (s .block) t R f lower number (leftOf R number))) m list′
 
 -- A link: it leads to a block that closes after t, which is listed; or the visit ends there; or it is unsound.
+-- (An end with 0 listed is unsound too; the callers take it so.)
 pub data Enters (s : Settings) (t : ℕ) (R : Reader) (lower upper number : ℕ) (list : List ℕ) (n : ℕ) : Entered → List ℕ → Type 0 where
   within : {m : ℕ} {list′ : List ℕ} → lower < number → number < upper → t < blockWord (R .block number) closedWord → m ≡ n + 1
       → list′ ≡ set list n number → Enters s t R lower upper number list n (Within m) list′
-  ended : {m : ℕ} {list′ : List ℕ} → VisitListed s t R lower upper number list n m list′ → 0 < m
-      → Enters s t R lower upper number list n (Ended m) list′
+  ended : {m : ℕ} {list′ : List ℕ} → VisitListed s t R lower upper number list n m list′ → Enters s t R lower upper number list n (Ended m) list′
   broken : {list′ : List ℕ} → VisitListed s t R lower upper number list n 0 list′ → Enters s t R lower upper number list n Unsound list′
 
 -- ---- what is asked

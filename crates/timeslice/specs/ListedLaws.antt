@@ -20,10 +20,10 @@ use Rattle.timeslice.specs.declared.rows.Took.the-variants.{Rows, TooMan
 use Rattle.timeslice.specs.declared.walk.Walked.the-variants.{Done, Unsound as Stopped}
 use Rattle.timeslice.specs.declared.walk.Entered.{Entered}
 use Rattle.timeslice.specs.declared.walk.Entered.the-variants.{Within, Ended, Unsound}
-use Rattle.timeslice.specs.Taken.{Takes, all, many}
+use Rattle.timeslice.specs.Taken.{Takes}
 use Rattle.timeslice.specs.TakenLaws.{sets-append}
-use Rattle.timeslice.specs.Told.{WalkTold, done, over, bad, VisitTold, Gap}
-use Rattle.timeslice.specs.ToldLaws.{word-is}
+use Rattle.timeslice.specs.Told.{WalkTold, bad, VisitTold, Gap}
+use Rattle.timeslice.specs.ToldLaws.{word-is, taken-all, taken-many}
 use Rattle.timeslice.specs.Listed.{rowsIn, Listed, every, none, VisitListed, InsideListed, Enters, within, ended, broken, ListRoom, InsideRoom, RowBuffer}
 use Rattle.timeslice.specs.VisitLaws.{with-fuel, visit-short, short-found, visit-follows, follows-rows, follows-all}
 
@@ -54,43 +54,32 @@ module _ {s : Settings} {t : ℕ} {R : Reader} {lower upper k : ℕ} {list : Lis
   enough {m} {list′} g = record { told = with-fuel (λ f. Listed list n (visit (s .block) t R f lower upper k) m list′) (upper - lower) g }
 
   -- There is no block,
-  visit-none : k ≡ 0 → VisitListed s t R lower upper k list n n list
+  pub enter-none : k ≡ 0 → Enters s t R lower upper k list n (Ended n) list
   unfolding visit
-  visit-none e = enough (λ f q. rw (eq-eqb k 0 e) (every {r = []} {l = []} {m = n} (omega arith) refl))
-
-  pub enter-none : 0 < n → k ≡ 0 → Enters s t R lower upper k list n (Ended n) list
-  enter-none h e = ended (visit-none e) h
+  enter-none e = ended {m = n} {list′ = list} (enough (λ f q. rw (eq-eqb k 0 e) (every {r = []} {l = []} {m = n} (omega arith) refl)))
 
   -- or it lies outside of the two numbers,
-  visit-low : (k ≡ 0 → ⊥) → k ≤ lower → VisitListed s t R lower upper k list n 0 list
-  unfolding visit
-  visit-low e₁ e₂ = enough (λ f q. rw (ne-eqb k 0 e₁, le-leb k lower e₂) none)
-
   pub enter-low : (k ≡ 0 → ⊥) → k ≤ lower → Enters s t R lower upper k list n Unsound list
-  enter-low e₁ e₂ = broken (visit-low e₁ e₂)
+  unfolding visit
+  enter-low e₁ e₂ = broken {list′ = list} (enough (λ f q. rw (ne-eqb k 0 e₁, le-leb k lower e₂) none))
 
   module _ (e₂ : lower < k) where
-    visit-high : upper ≤ k → VisitListed s t R lower upper k list n 0 list
-    unfolding visit
-    visit-high e₃ = enough (λ f q. rw (ne-eqb k 0 (λ z. omega arith), lt-leb k lower e₂, le-leb upper k e₃) none)
-
     pub enter-high : upper ≤ k → Enters s t R lower upper k list n Unsound list
-    enter-high e₃ = broken (visit-high e₃)
+    unfolding visit
+    enter-high e₃ = broken {list′ = list} (enough (λ f q. rw (ne-eqb k 0 (λ z. omega arith), lt-leb k lower e₂, le-leb upper k e₃) none))
 
-    module _ (e₃ : k < upper) where
-      -- or it closed by t,
-      visit-ended : blockWord (R .block k) closedWord ≤ t → VisitListed s t R lower upper k list n (n + 1) (set list n k)
+    -- or it closed by t,
+    module _ (e₃ : k < upper) {block : List ℕ} (is : block ≡ R .block k) {closed : ℕ} (c : closed ≡ blockWord block closedWord) where
+      pub enter-ended : closed ≤ t → Enters s t R lower upper k list n (Ended (n + 1)) (set list n k)
       unfolding visit
-      visit-ended g = enough (λ f q.
-          rw (ne-eqb k 0 (λ z. omega arith), lt-leb k lower e₂, lt-leb upper k e₃, le-leb _ t g) (every {r = []} {l = k ∷ []} refl refl))
+      enter-ended g =
+          let h : blockWord (R .block k) closedWord ≤ t = rw (word-is closedWord is c) at g in
+          ended {m = n + 1} {list′ = set list n k} (enough (λ f q.
+          rw (ne-eqb k 0 (λ z. omega arith), lt-leb k lower e₂, lt-leb upper k e₃, le-leb _ t h) (every {r = []} {l = k ∷ []} refl refl)))
 
-      module _ {block : List ℕ} (is : block ≡ R .block k) {closed : ℕ} (c : closed ≡ blockWord block closedWord) where
-        pub enter-ended : closed ≤ t → Enters s t R lower upper k list n (Ended (n + 1)) (set list n k)
-        enter-ended g = ended (visit-ended (rw (word-is closedWord is c) at g)) (omega arith)
-
-        -- or the visit goes on inside.
-        pub enter-within : t < closed → Enters s t R lower upper k list n (Within (n + 1)) (set list n k)
-        enter-within g = within e₂ e₃ (rw (word-is closedWord is c) at g) refl refl
+      -- or the visit goes on inside.
+      pub enter-within : t < closed → Enters s t R lower upper k list n (Within (n + 1)) (set list n k)
+      enter-within g = within e₂ e₃ (rw (word-is closedWord is c) at g) refl refl
 
   -- A visit that goes on inside its block is listed as that goes.
   inside-visit : {m : ℕ} {list₁ : List ℕ} → Enters s t R lower upper k list n (Within m) list₁ → {a : ℕ} {list₂ : List ℕ}
@@ -102,18 +91,15 @@ module _ {s : Settings} {t : ℕ} {R : Reader} {lower upper k : ℕ} {list : Lis
       rw (ne-eqb k 0 z, lt-leb k lower e₂, lt-leb upper k e₃, lt-leb _ t c) (listed-then first (omega arith) (inside .told f h)))
 
   module _ {x : Entered} {list₁ : List ℕ} (in-it : Enters s t R lower upper k list n x list₁) where
-    ends : {m : ℕ} → Enters s t R lower upper k list n (Ended m) list₁ → VisitListed s t R lower upper k list n m list₁ × (0 < m)
-    ends (ended v h) = (v, h)
+    ends : {m : ℕ} → Enters s t R lower upper k list n (Ended m) list₁ → VisitListed s t R lower upper k list n m list₁
+    ends (ended v) = v
 
     breaks : Enters s t R lower upper k list n Unsound list₁ → VisitListed s t R lower upper k list n 0 list₁
     breaks (broken v) = v
 
     -- What entering the block answered, and what went on inside.
     pub by-end : {m : ℕ} → x ≡ Ended m → VisitListed s t R lower upper k list n m list₁
-    by-end e = ends (rw e at in-it) .0
-
-    pub some-listed : {m : ℕ} → x ≡ Ended m → 0 < m
-    some-listed e = ends (rw e at in-it) .1
+    by-end e = ends (rw e at in-it)
 
     pub by-break : x ≡ Unsound → VisitListed s t R lower upper k list n 0 list₁
     by-break e = breaks (rw e at in-it)
@@ -139,19 +125,17 @@ module _ {s : Settings} {t : ℕ} {R : Reader} {lower upper k : ℕ} {list : Lis
         }
 
 -- ---- the whole visit
--- a walk with its rows taken and its blocks listed
-takes-as : {d given : ℕ} {rows rows′ : List ℕ} {r : List Row} {x y : Took} → Takes d rows given r x rows′ → x ≡ y → Takes d rows given r y rows′
-takes-as a e = rw (← e) a
-
-taken-done : {d : ℕ} {rows list rows′ list′ : List ℕ} {n : Counts} {r : List Row} {l : List ℕ} {m given : ℕ} → m ≡ n .blocks + length l
-    → list′ ≡ sets list (n .blocks) l → Takes d rows (n .rows) r (Rows given) rows′
-    → WalkTold d rows list n (found r l) (Done (record { rows = given; pages = n .pages; blocks = m })) rows′ list′
-taken-done {r = r} {l = l} e q (all g f w) =
-    done {r = r} {l = l} (record { given = g; pages = refl; blocks = e; fits = f; row-words = w; list-words = q })
-
-taken-over : {d : ℕ} {rows list rows′ list′ : List ℕ} {n : Counts} {r : List Row} {l : List ℕ} → Takes d rows (n .rows) r TooMany rows′
-    → WalkTold d rows list n (found r l) Stopped rows′ list′
-taken-over {r = r} (many h) = over {r = r} h
+-- the part of the list that a visit listed, whose rows taken tell the visit
+pub record ListedPart (s : Settings) (t : ℕ) (R : Reader) (lower upper k : ℕ) (rows list : List ℕ) (n : Counts) (m : ℕ) (list′ : List ℕ) : Type 0 where
+  pub start : n .blocks ≤ m
+  pub end : m ≤ length list′
+  pub numbered : All (Numbered s) (take (m - n .blocks) (drop (n .blocks) list′))
+  pub many : {x : Took} {rows′ : List ℕ}
+      → Takes (s .tags) rows (n .rows) (rowsIn (s .block) t R (take (m - n .blocks) (drop (n .blocks) list′))) x rows′ → x ≡ TooMany
+      → VisitTold s t R lower upper k rows list n Stopped rows′ list′
+  pub whole : {x : Took} {rows′ : List ℕ} {given : ℕ}
+      → Takes (s .tags) rows (n .rows) (rowsIn (s .block) t R (take (m - n .blocks) (drop (n .blocks) list′))) x rows′ → x ≡ Rows given
+      → VisitTold s t R lower upper k rows list n (Done (record { rows = given; pages = n .pages; blocks = m })) rows′ list′
 
 module _ {s : Settings} {lower upper : ℕ} {rows list : List ℕ} {n : Counts} (room : Gap s lower upper n rows list) where
   pub gap-list : ListRoom s lower upper (n .blocks) list
@@ -183,39 +167,31 @@ module _ {s : Settings} {lower upper : ℕ} {rows list : List ℕ} {n : Counts} 
     few : (f : ℕ) {r : List Row} {l : List ℕ} → visit (s .block) t R f lower upper k ≡ found r l → n .blocks + length l ≤ s .blocks
     few f w = omega (arith, short-found (visit-short (s .block) t R f lower upper k (room .gap)) w, room .blocks)
 
-    module _ (h : 0 < m) where
-      -- or what is listed is a part of the list, of blocks of the store,
-      pub part-start : n .blocks ≤ m
-      part-start = let (r, l, w, e, q) = listed-found (listing .told (suc (upper - lower)) (omega arith)) h in omega arith
+    -- or what is listed is a part of the list,
+    module _ (h : 0 < m) (same : length list′ ≡ length list) where
+      -- whose rows are the visit's,
+      found-by : {x : Took} {rows′ : List ℕ} → Takes (s .tags) rows (n .rows) (rowsIn (s .block) t R (take (m - n .blocks) (drop (n .blocks) list′))) x rows′
+          → (f : ℕ) → upper - lower < f
+          → (r : List Row) × (l : List ℕ) × (visit (s .block) t R f lower upper k ≡ found r l) × (m ≡ n .blocks + length l)
+          × (list′ ≡ sets list (n .blocks) l) × Takes (s .tags) rows (n .rows) r x rows′
+      found-by taken f g =
+          let (r, l, w, e, q) = listed-found (listing .told f g) h in
+          let i : r ≡ rowsIn (s .block) t R l = follows-rows (s .block) t R (rw w at (visit-follows (s .block) t R f lower upper k)) in
+          let j = listed-part {l = l} e q (few f w) in
+          (r, l, w, e, q, rw (j, ← i) at taken)
 
-      pub part-end : length list′ ≡ length list → m ≤ length list′
-      part-end same =
-          let (r, l, w, e, q) = listed-found (listing .told (suc (upper - lower)) (omega arith)) h in
-          omega (arith, few (suc (upper - lower)) w, room .buffers .long-list)
-
-      pub part-numbered : All (Numbered s) (take (m - n .blocks) (drop (n .blocks) list′))
-      part-numbered =
-          let (r, l, w, e, q) = listed-found (listing .told (suc (upper - lower)) (omega arith)) h in
-          let i = listed-part e q (few (suc (upper - lower)) w) in
-          rw i
-          (all-map (λ i b. record { low = omega (arith, b .low); high = omega (arith, b .high, room .known) })
-          (follows-all (s .block) t R (rw w at (visit-follows (s .block) t R (suc (upper - lower)) lower upper k))))
-
-      -- and its rows are taken, or too many.
-      module _ {x : Took} {rows′ : List ℕ}
-          (taken : Takes (s .tags) rows (n .rows) (rowsIn (s .block) t R (take (m - n .blocks) (drop (n .blocks) list′))) x rows′) where
-        found-by : (f : ℕ) → upper - lower < f
-            → (r : List Row) × (l : List ℕ) × (visit (s .block) t R f lower upper k ≡ found r l) × (m ≡ n .blocks + length l)
-            × (list′ ≡ sets list (n .blocks) l) × Takes (s .tags) rows (n .rows) r x rows′
-        found-by f g =
-            let (r, l, w, e, q) = listed-found (listing .told f g) h in
-            let i : r ≡ rowsIn (s .block) t R l = follows-rows (s .block) t R (rw w at (visit-follows (s .block) t R f lower upper k)) in
-            let j = listed-part {l = l} e q (few f w) in
-            (r, l, w, e, q, rw (j, ← i) at taken)
-
-        pub visit-many : x ≡ TooMany → VisitTold s t R lower upper k rows list n Stopped rows′ list′
-        visit-many z = record { told = λ f g. let (r, l, w, e, q, y) = found-by f g in rw w (taken-over {l = l} (takes-as y z)) }
-
-        pub visit-whole : {given : ℕ} → x ≡ Rows given
-            → VisitTold s t R lower upper k rows list n (Done (record { rows = given; pages = n .pages; blocks = m })) rows′ list′
-        visit-whole z = record { told = λ f g. let (r, l, w, e, q, y) = found-by f g in rw w (taken-done e q (takes-as y z)) }
+      -- of blocks of the store.
+      pub visit-part : ListedPart s t R lower upper k rows list n m list′
+      visit-part =
+          let f : ℕ = suc (upper - lower) in
+          let (r, l, w, e, q) = listed-found (listing .told f (omega arith)) h in
+          let i = listed-part {l = l} e q (few f w) in
+          record {
+            start = omega arith;
+            end = omega (arith, few f w, room .buffers .long-list);
+            numbered = rw i
+                (all-map (λ i b. record { low = omega (arith, b .low); high = omega (arith, b .high, room .known) })
+                (follows-all (s .block) t R (rw w at (visit-follows (s .block) t R f lower upper k))));
+            many = λ taken z. record { told = λ f g. let (r, l, w, e, q, y) = found-by taken f g in rw w (taken-many y z) };
+            whole = λ taken z. record { told = λ f g. let (r, l, w, e, q, y) = found-by taken f g in rw w (taken-all y z e q) };
+          }

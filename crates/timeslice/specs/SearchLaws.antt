@@ -175,21 +175,21 @@ page-entry {ws} {opened} {l} {e} h t R {k} q z =
     record { level = h .level; entry = rw (← q) at (look-entry t opened R l e (rw q at z)); long = h .long }
 
 -- ---- few pages are passed, and the block found is one of those opened
-data Small (l opened : ℕ) : Finding ℕ (List Pass) → Type 0 where
-  none : Small l opened unsound
-  some : {n : ℕ} {ps : List Pass} → length ps ≤ l → n ≤ opened → Small l opened (found n ps)
+data FewPasses (l opened : ℕ) : Finding ℕ (List Pass) → Type 0 where
+  none : FewPasses l opened unsound
+  some : {n : ℕ} {ps : List Pass} → length ps ≤ l → n ≤ opened → FewPasses l opened (found n ps)
 
-passing-small : {l opened : ℕ} (p : Pass) {w : Finding ℕ (List Pass)} → Small l opened w → Small (suc l) opened (passing p w)
+passing-small : {l opened : ℕ} (p : Pass) {w : Finding ℕ (List Pass)} → FewPasses l opened w → FewPasses (suc l) opened (passing p w)
 passing-small p none = none
 passing-small p (some {ps = ps} h g) = some {ps = p ∷ ps} (omega arith) g
 
-descend-small : (t opened : ℕ) (R : Reader) (l e : ℕ) → e < entries opened l → Small l opened (descend t opened R l e)
+descend-small : (t opened : ℕ) (R : Reader) (l e : ℕ) → e < entries opened l → FewPasses l opened (descend t opened R l e)
 unfolding descend entries
 descend-small t opened R zero e h = some {ps = []} (omega arith) h
-descend-small t opened R (suc l) e h = cond-all (Small (suc l) opened) (eqb (lookUp t opened R l e) 0) (λ z. none)
+descend-small t opened R (suc l) e h = cond-all (FewPasses (suc l) opened) (eqb (lookUp t opened R l e) 0) (λ z. none)
     (λ z. passing-small _ (descend-small t opened R l _ (look-entry t opened R l e (eqb-false _ 0 z))))
 
-small-start : {l opened : ℕ} {w : Finding ℕ (List Pass)} → Small l opened w → {s : PathStart} → searchedOf w ≡ At s → (s .read ≤ l) × (s .block ≤ opened)
+small-start : {l opened : ℕ} {w : Finding ℕ (List Pass)} → FewPasses l opened w → {s : PathStart} → searchedOf w ≡ At s → (s .read ≤ l) × (s .block ≤ opened)
 small-start none e = absurd (let z : _≡_ {A = ℕ} 0 1 = cc in omega arith)
 small-start (some {n} {ps} h g) {s} e = let i : s ≡ pathStart n ps = cc in rw i (h, g)
 
@@ -243,17 +243,17 @@ top-entry {l = l} h t R {k} q z =
     rw e at (page-entry h t R q z)
 
 -- The search reads at most three pages, and the block that it finds is one of those opened.
-small-more : {l m opened : ℕ} {w : Finding ℕ (List Pass)} → l ≤ m → Small l opened w → Small m opened w
+small-more : {l m opened : ℕ} {w : Finding ℕ (List Pass)} → l ≤ m → FewPasses l opened w → FewPasses m opened w
 small-more h none = none
 small-more h (some {ps = ps} p q) = some {ps = ps} (omega arith) q
 
-search-small : (t opened : ℕ) (R : Reader) → Small 3 opened (search t opened R)
+search-small : (t opened : ℕ) (R : Reader) → FewPasses 3 opened (search t opened R)
 unfolding search
 search-small t opened R =
     let l = topLevel opened in
     let top : Pass = record { level = l; number = 0 } in
-    cond-all (Small 3 opened) (eqb opened 0) (λ e. some {ps = []} (omega arith) (omega arith))
-    (λ e. cond-all (λ x. Small 3 opened (passing top x)) (eqb (lookUp t opened R l 0) 0) (λ z. some {ps = top ∷ []} (omega arith) (omega arith))
+    cond-all (FewPasses 3 opened) (eqb opened 0) (λ e. some {ps = []} (omega arith) (omega arith))
+    (λ e. cond-all (λ x. FewPasses 3 opened (passing top x)) (eqb (lookUp t opened R l 0) 0) (λ z. some {ps = top ∷ []} (omega arith) (omega arith))
     (λ z.
     let k = look-entry t opened R l 0 (eqb-false _ 0 z) in
     small-more (top-below opened) (passing-small top (descend-small t opened R l (lookUp t opened R l 0 - 1) (omega arith)))))

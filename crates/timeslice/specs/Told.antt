@@ -20,7 +20,7 @@ use Rattle.calls.specs.LookBack.{rowWords}
 use Rattle.timeslice.specs.declared.Counts.{Counts}
 use Rattle.timeslice.specs.declared.walk.Walked.{Walked}
 use Rattle.timeslice.specs.declared.walk.Walked.the-variants.{Done, Unsound}
-use Rattle.timeslice.specs.declared.walk.Step.{Step}
+use Rattle.timeslice.specs.declared.walk.PathBlock.{PathBlock}
 use Rattle.timeslice.specs.declared.walk.Climbed.{Climbed}
 use Rattle.timeslice.specs.declared.walk.Climbed.the-variants.{On, Unsound as NotOn}
 
@@ -60,7 +60,7 @@ upOf R n = blockWord (R .block n) upWord
 
 -- a path block: its up is below it, it is listed, its rows are taken, and its left neighbour is next
 pub data Climbs (s : Settings) (t : ℕ) (R : Reader) (rows list : List ℕ) (n : Counts) (number : ℕ) : Climbed → List ℕ → List ℕ → Type 0 where
-  on : {i : Step} {rows′ list′ : List ℕ} → upOf R number < number → i .up ≡ upOf R number → i .next ≡ neighbour R number
+  on : {i : PathBlock} {rows′ list′ : List ℕ} → upOf R number < number → i .up ≡ upOf R number → i .next ≡ neighbour R number
       → WalkTold (s .tags) rows list n (blockWalk s t (R .block number) number) (Done (i .counts)) rows′ list′
       → Climbs s t R rows list n number (On i) rows′ list′
   above : {rows′ list′ : List ℕ} → number ≤ upOf R number → Climbs s t R rows list n number NotOn rows′ list′

@@ -1,9 +1,10 @@
 -- Walks told one after another are told as one walk; a walk that stops, stops the whole. And a block listed, its rows taken, is told.
 use mathlib.Core.Path.{_≡_, refl, sym, _∙_}
-use mathlib.Core.List.{List, [], _∷_, _++_}
+use mathlib.Core.List.{List, [], _++_}
 use Prim.Native.Nat.{ℕ, _+_, _≤_}
 use native.Mathlib.Omega.{arith}
-use lib.ListN.{length, set, length-append}
+use lib.ListN.{length, length-append}
+use lib.Seq.{sets}
 use Rattle.layout.specs.declared.settings.Settings.{Settings}
 use Rattle.layout.specs.declared.head.Head.{Head}
 use Rattle.layout.specs.Parts.{blockWord}
@@ -57,29 +58,22 @@ pub told-found : {d : ℕ} {rows list rows′ list′ : List ℕ} {n m : Counts}
     → (r : List Row) × (l : List ℕ) × (w ≡ found r l) × Filled d rows list n r l m rows′ list′
 told-found (done {r = r} {l = l} a) = (r, l, refl, a)
 
--- ---- a block listed
--- one block more is counted
-abbrev pub oneMore : ℕ → Counts → Counts
-oneMore given n = record { rows = given; pages = n .pages; blocks = n .blocks + 1 }
+-- ---- a walk's rows taken and its blocks listed
+module _ {d : ℕ} {rows list : List ℕ} {n : Counts} {r : List Row} {l : List ℕ} {x : Took} {rows′ : List ℕ} (taken : Takes d rows (n .rows) r x rows′) where
+  all-told : {given m : ℕ} {list′ : List ℕ} → Takes d rows (n .rows) r (Rows given) rows′ → m ≡ n .blocks + length l → list′ ≡ sets list (n .blocks) l
+      → WalkTold d rows list n (found r l) (Done (record { rows = given; pages = n .pages; blocks = m })) rows′ list′
+  all-told (all g f w) e q = done {r = r} {l = l} (record { given = g; pages = refl; blocks = e; fits = f; row-words = w; list-words = q })
 
-module _ {d : ℕ} {rows list : List ℕ} {n : Counts} {number : ℕ} where
-  listed-filled : {r : List Row} {given : ℕ} {rows′ : List ℕ} → Takes d rows (n .rows) r (Rows given) rows′
-      → WalkTold d rows list n (found r (number ∷ [])) (Done (oneMore given n)) rows′ (set list (n .blocks) number)
-  listed-filled {r} (all e h q) =
-      done {r = r} {l = number ∷ []} (record { given = e; pages = refl; blocks = refl; fits = h; row-words = q; list-words = refl })
+  many-told : {list′ : List ℕ} → Takes d rows (n .rows) r MoreThan rows′ → WalkTold d rows list n (found r l) Unsound rows′ list′
+  many-told (more h) = over {r = r} h
 
-  listed-over : {r : List Row} {rows′ list′ : List ℕ} → Takes d rows (n .rows) r MoreThan rows′
-      → WalkTold d rows list n (found r (number ∷ [])) Unsound rows′ list′
-  listed-over {r} (more h) = over {r = r} h
+  -- all its rows, or too many
+  pub taken-all : {given : ℕ} → x ≡ Rows given → {m : ℕ} {list′ : List ℕ} → m ≡ n .blocks + length l → list′ ≡ sets list (n .blocks) l
+      → WalkTold d rows list n (found r l) (Done (record { rows = given; pages = n .pages; blocks = m })) rows′ list′
+  taken-all e = all-told (rw e at taken)
 
-  -- its rows taken, or too many
-  module _ {r : List Row} {x : Took} {rows′ : List ℕ} (taken : Takes d rows (n .rows) r x rows′) where
-    pub listed-all : {given : ℕ} → x ≡ Rows given
-        → WalkTold d rows list n (found r (number ∷ [])) (Done (oneMore given n)) rows′ (set list (n .blocks) number)
-    listed-all e = listed-filled (rw e at taken)
-
-    pub listed-many : {list′ : List ℕ} → x ≡ MoreThan → WalkTold d rows list n (found r (number ∷ [])) Unsound rows′ list′
-    listed-many e = listed-over (rw e at taken)
+  pub taken-many : x ≡ MoreThan → {list′ : List ℕ} → WalkTold d rows list n (found r l) Unsound rows′ list′
+  taken-many e = many-told (rw e at taken)
 
 -- ---- the block that the code is handed is the reader's
 pub blocks-of : {ws : List ℕ} {h : Head} → Readable ws h → Blocks ws (h .settings)

@@ -11,13 +11,10 @@ use layout::head::HeadAnswer;
 use layout::parts;
 use layout::refusal;
 use walk::Walked;
-ghost use mathlib.Core.Path.{_≡_};
 ghost use Rattle.layout.specs.Settings.{Within};
-ghost use Rattle.layout.specs.HeadLaws.{HeadRead};
-ghost use Rattle.calls.specs.Refusals.{refusal as refusalOf};
 ghost use Rattle.calls.specs.LookBack.{lookAt};
 ghost use Rattle.timeslice.specs.Told.{Readable, Buffers};
-ghost use Rattle.timeslice.specs.Answer.{LookedBack, Slices, Answers, ownTests};
+ghost use Rattle.timeslice.specs.Answer.{LookedBack, WalkSays, Answers, OwnRefusal};
 
 // Rows given, pages read and blocks listed.
 pub struct Counts {
@@ -34,13 +31,13 @@ pub struct Slice {
     pub page2: u32,
 }
 
-pub enum Looked {
+pub enum SliceAnswer {
     Answered(Slice),
     Refused(u32),
 }
 
 // What search and path come to: a slice, with its rows and its list in the two buffers; or a word of the store is unsound.
-pub enum Sliced {
+pub enum WalkAnswer {
     Whole(Slice),
     Unsound,
 }
@@ -48,7 +45,7 @@ pub enum Sliced {
 // Refusals 4, 5, 7 and 11, in order, for a head that was read; 0 if none applies.
 fn turned_away(words: usize, h: Head, second: u32, rows: usize, list: usize) -> u32
     requires { ⌜ Within (h .settings) ⌝ }
-    ensures { λ r. ⌜ r ≡ refusalOf (ownTests h words second rows list) ⌝ }
+    ensures { λ r. ⌜ OwnRefusal h words second rows list r ⌝ }
 {
     if words < h.settings.words() {
         return refusal::SHORT_STORE;
@@ -69,13 +66,13 @@ fn turned_away(words: usize, h: Head, second: u32, rows: usize, list: usize) -> 
 }
 
 // Search, then the path from the block found.
-fn look(store: &[u32], h: Head, second: u32, rows: &mut [u32], list: &mut [u32]) -> Sliced
+fn look(store: &[u32], h: Head, second: u32, rows: &mut [u32], list: &mut [u32]) -> WalkAnswer
     requires { ⌜ Readable (now store) h ⌝ }
     requires { ⌜ Buffers (h .settings) (now rows) (now list) ⌝ }
-    ensures { λ r. ⌜ Slices (lookAt (now (store .entry)) second) (now (rows .entry)) (now (list .entry)) r (now (rows .exit)) (now (list .exit)) ⌝ }
+    ensures { λ r. ⌜ WalkSays (lookAt (now (store .entry)) second) (now (rows .entry)) (now (list .entry)) r (now (rows .exit)) (now (list .exit)) ⌝ }
 {
     let Searched::At(found) = index::search(store, h, second) else {
-        return Sliced::Unsound;
+        return WalkAnswer::Unsound;
     };
     let none = Counts {
         rows: 0,
@@ -83,9 +80,9 @@ fn look(store: &[u32], h: Head, second: u32, rows: &mut [u32], list: &mut [u32])
         blocks: 0,
     };
     let Walked::Done(counts) = walk::path(store, h, found.block, second, rows, list, none) else {
-        return Sliced::Unsound;
+        return WalkAnswer::Unsound;
     };
-    Sliced::Whole(Slice {
+    WalkAnswer::Whole(Slice {
         counts,
         page0: found.page0,
         page1: found.page1,
@@ -94,39 +91,33 @@ fn look(store: &[u32], h: Head, second: u32, rows: &mut [u32], list: &mut [u32])
 }
 
 // The walk's answer; where it is unsound, refusal 12 fills both buffers with zeros.
-fn answer(store: &[u32], h: Head, second: u32, rows: &mut [u32], list: &mut [u32]) -> Looked
+fn answer(store: &[u32], h: Head, second: u32, rows: &mut [u32], list: &mut [u32]) -> SliceAnswer
     requires { ⌜ Readable (now store) h ⌝ }
     requires { ⌜ Buffers (h .settings) (now rows) (now list) ⌝ }
     ensures { λ r. ⌜ Answers (now (store .entry)) second (now (rows .entry)) (now (list .entry)) r (now (rows .exit)) (now (list .exit)) ⌝ }
 {
     match look(store, h, second, rows, list) {
-        Sliced::Whole(slice) => Looked::Answered(slice),
-        Sliced::Unsound => {
+        WalkAnswer::Whole(slice) => SliceAnswer::Answered(slice),
+        WalkAnswer::Unsound => {
             parts::zero_all(rows);
             parts::zero_all(list);
-            Looked::Refused(refusal::UNSOUND)
+            SliceAnswer::Refused(refusal::UNSOUND)
         }
     }
 }
 
-// A look-back at a head that was read: refused, or answered by the walk.
-fn with_head(store: &[u32], h: Head, second: u32, rows: &mut [u32], list: &mut [u32]) -> Looked
-    requires { ⌜ HeadRead (now store) h ⌝ }
-    ensures { λ r. ⌜ LookedBack (now (store .entry)) second (now (rows .entry)) (now (list .entry)) r (now (rows .exit)) (now (list .exit)) ⌝ }
-{
-    let n = turned_away(store.len(), h, second, rows.len(), list.len());
-    if n != 0 {
-        return Looked::Refused(n);
-    }
-    answer(store, h, second, rows, list)
-}
-
 // What stood at a second: its rows go into the one buffer, the reading list into the other. Refused for the first reason that applies, on any words.
-pub fn look_back(store: &[u32], second: u32, rows: &mut [u32], list: &mut [u32]) -> Looked
+pub fn look_back(store: &[u32], second: u32, rows: &mut [u32], list: &mut [u32]) -> SliceAnswer
     ensures { λ r. ⌜ LookedBack (now (store .entry)) second (now (rows .entry)) (now (list .entry)) r (now (rows .exit)) (now (list .exit)) ⌝ }
 {
     match head::read_head(store) {
-        HeadAnswer::Refused(n) => Looked::Refused(n),
-        HeadAnswer::Read(h) => with_head(store, h, second, rows, list),
+        HeadAnswer::Refused(n) => SliceAnswer::Refused(n),
+        HeadAnswer::Read(h) => {
+            let n = turned_away(store.len(), h, second, rows.len(), list.len());
+            if n != 0 {
+                return SliceAnswer::Refused(n);
+            }
+            answer(store, h, second, rows, list)
+        }
     }
 }

@@ -11,8 +11,7 @@ ghost use mathlib.Core.Path.{_≡_};
 ghost use Rattle.layout.specs.Address.{Numbered};
 ghost use Rattle.calls.specs.Walk.{neighbour as neighbourOf};
 ghost use Rattle.calls.specs.LookBack.{reader};
-ghost use Rattle.timeslice.specs.Taken.{RowRoom};
-ghost use Rattle.timeslice.specs.Told.{WalkTold, VisitTold, PathTold, blockWalk, Climbs, Readable, Blocks, Space, Gap, Reach, Under};
+ghost use Rattle.timeslice.specs.Told.{VisitTold, PathTold, Climbs, Readable, Blocks, Space, Gap, Reach, Under};
 ghost use Rattle.timeslice.specs.Listed.{Enters, VisitListed, InsideListed, ListRoom, InsideRoom};
 
 // What a part of the walk comes to: all that is counted so far, or a link that is unsound or more rows than tags.
@@ -31,42 +30,15 @@ pub enum Entered {
 }
 
 // A path block: its up, its left neighbour, and what is counted with its rows.
-pub struct Step {
+pub struct PathBlock {
     pub up: u32,
     pub next: u32,
     pub counts: Counts,
 }
 
 pub enum Climbed {
-    On(Step),
+    On(PathBlock),
     Unsound,
-}
-
-// A block is listed, and its rows at t are taken.
-fn list_block(
-    block: &[u32],
-    number: u32,
-    t: u32,
-    s: Settings,
-    rows: &mut [u32],
-    list: &mut [u32],
-    n: Counts,
-) -> Walked
-    requires { ⌜ RowRoom s (now block) (n .rows) (now rows) ⌝ }
-    requires { ⌜ Space s n (now rows) (now list) ⌝ }
-    ensures { λ r. ⌜ WalkTold (s .tags) (now (rows .entry)) (now (list .entry)) n (blockWalk s t (now (block .entry)) number)
-        r (now (rows .exit)) (now (list .exit)) ⌝ }
-{
-    let at = n.blocks as usize;
-    list[at] = number;
-    let Took::Rows(given) = rows::take_rows(block, t, s, rows, n.rows) else {
-        return Walked::Unsound;
-    };
-    Walked::Done(Counts {
-        rows: given,
-        pages: n.pages,
-        blocks: n.blocks + 1,
-    })
 }
 
 // A link from a listed block: 0, which ends the visit, or a block strictly between lower and upper. It is listed, and the visit goes on inside it if it
@@ -232,13 +204,19 @@ fn climb(
     if number <= up {
         return Climbed::Unsound;
     }
-    let Walked::Done(m) = list_block(block, number, t, h.settings, rows, list, n) else {
+    let at = n.blocks as usize;
+    list[at] = number;
+    let Took::Rows(given) = rows::take_rows(block, t, h.settings, rows, n.rows) else {
         return Climbed::Unsound;
     };
-    Climbed::On(Step {
+    Climbed::On(PathBlock {
         up,
         next: neighbour(store, h, number),
-        counts: m,
+        counts: Counts {
+            rows: given,
+            pages: n.pages,
+            blocks: n.blocks + 1,
+        },
     })
 }
 

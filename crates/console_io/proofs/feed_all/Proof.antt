@@ -18,23 +18,8 @@ abbrev μ-loop : tie.MeasureT-loop
 loop-holds : tie.Need-loop-holds Inv-loop μ-loop
 loop-holds c = to-none _ _
 
-is-over-requires : tie.Need-is-over-requires Inv-loop μ-loop
-is-over-requires c κs = search needs
-
 returns : tie.Need-returns Inv-loop μ-loop
 returns c = to-over (c .before .before .before .before .loop .inv) (sym (c .before .is-over .ensures) ∙ c .if1 .taken)
-
-shared-slice-read-feed-one : tie.Need-shared-slice-read-feed-one Inv-loop μ-loop
-shared-slice-read-feed-one c = search needs
-
-feed-one-requires : tie.Need-feed-one-requires Inv-loop μ-loop
-feed-one-requires c κs = search needs
-
-add-i : tie.Need-add-i Inv-loop μ-loop
-add-i c = search needs
-
-loop-less : tie.Need-loop-less Inv-loop μ-loop
-loop-less c = search needs
 
 loop-again : tie.Need-loop-again Inv-loop μ-loop
 loop-again c =
@@ -53,11 +38,11 @@ feed-all-spec =
     Inv-loop
     μ-loop
     loop-holds
-    is-over-requires
+    (search needs)
     returns
-    shared-slice-read-feed-one
-    feed-one-requires
-    add-i
-    loop-less
+    (search needs)
+    (search needs)
+    (search needs)
+    (search needs)
     loop-again
     returns-2)

@@ -4,14 +4,8 @@ use borrow.Author.Needs.{needs}
 use Rattle.console_io.proofs.feed_one.Statement.{statement}
 use Rattle.console_io.proofs.feed_one.Tie as tie
 
-feed-requires : tie.Need-feed-requires
-feed-requires c κs = search needs
-
-print-said-requires : tie.Need-print-said-requires
-print-said-requires c κs = search needs
-
 returns : tie.Need-returns
 returns c = byte-fed (c .before .before .before .before .feed .ensures) (c .print-said .ensures)
 
 pub feed-one-spec : {M : Type 1} → statement M
-feed-one-spec = tie.close (tie.spec feed-requires print-said-requires returns)
+feed-one-spec = tie.close (tie.spec (search needs) (search needs) returns)

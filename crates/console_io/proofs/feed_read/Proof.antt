@@ -7,20 +7,11 @@ use Rattle.console_io.specs.SessionLaws.{counted, fed-counted}
 use Rattle.console_io.proofs.feed_read.Statement.{statement}
 use Rattle.console_io.proofs.feed_read.Tie as tie
 
-count-requires : tie.Need-count-requires
-count-requires c κs = search needs
-
 returns : tie.Need-returns
 returns c =
     let s = c .before .before .before in
     let n = counted (s .args .chunk .now) (toZ-ofZ w64 (s .args .got) (s .fits .got)) (c .before .count .ensures .1) in
     record { is = (sym n ∙ c .if1 .taken, refl) }
-
-slice-aggregate-feed-all : tie.Need-slice-aggregate-feed-all
-slice-aggregate-feed-all c = search needs
-
-feed-all-requires : tie.Need-feed-all-requires
-feed-all-requires c κs = search needs
 
 returns-2 : tie.Need-returns-2
 returns-2 c =
@@ -31,4 +22,4 @@ returns-2 c =
 pub feed-read-spec : {M : Type 1} → statement M
 feed-read-spec =
     tie.close
-    (tie.spec count-requires returns slice-aggregate-feed-all feed-all-requires returns-2)
+    (tie.spec (search needs) returns (search needs) (search needs) returns-2)

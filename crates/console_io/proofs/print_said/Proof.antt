@@ -12,20 +12,8 @@ Inv-loop said number rows count next₀ i₀ next i = SentTo next₀ (saidLines 
 abbrev μ-loop : tie.MeasureT-loop
 μ-loop said number rows count next₀ i₀ next i = count - i
 
-line-count-requires : tie.Need-line-count-requires Inv-loop μ-loop
-line-count-requires c κs = search needs
-
 loop-holds : tie.Need-loop-holds Inv-loop μ-loop
 loop-holds c = sent-none _ _
-
-print-one-requires : tie.Need-print-one-requires Inv-loop μ-loop
-print-one-requires c κs = search needs
-
-add-i : tie.Need-add-i Inv-loop μ-loop
-add-i c = search needs
-
-loop-less : tie.Need-loop-less Inv-loop μ-loop
-loop-less c = search needs
 
 loop-again : tie.Need-loop-again Inv-loop μ-loop
 loop-again c = said-next _ _ _ (c .before .before .before .line-count .ensures) (c .before .before .loop .inv) (c .before .loop-test .taken) (c .print-one .ensures)
@@ -39,10 +27,10 @@ print-said-spec =
     (tie.spec
     Inv-loop
     μ-loop
-    line-count-requires
+    (search needs)
     loop-holds
-    print-one-requires
-    add-i
-    loop-less
+    (search needs)
+    (search needs)
+    (search needs)
     loop-again
     returns)

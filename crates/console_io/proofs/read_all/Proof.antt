@@ -14,38 +14,14 @@ Inv-loop input line₀ store₀ rows₀ list₀ chunk₀ next₀ reads₀ line s
 abbrev μ-loop : tie.MeasureT-loop
 μ-loop input line₀ store₀ rows₀ list₀ chunk₀ next₀ reads₀ line store rows list chunk next reads = reads
 
-buffer-requires : tie.Need-buffer-requires Inv-loop μ-loop
-buffer-requires c κs = search needs
-
 loop-holds : tie.Need-loop-holds Inv-loop μ-loop
 loop-holds c = (c .buffer .ensures, read-none _)
-
-is-over-requires : tie.Need-is-over-requires Inv-loop μ-loop
-is-over-requires c κs = search needs
 
 returns : tie.Need-returns Inv-loop μ-loop
 returns c = c .before .before .before .before .loop .inv .1
 
-slice-aggregate-read-some : tie.Need-slice-aggregate-read-some Inv-loop μ-loop
-slice-aggregate-read-some c = search needs
-
-read-some-requires : tie.Need-read-some-requires Inv-loop μ-loop
-read-some-requires c κs = search needs
-
-enum-known-more : tie.Need-enum-known-more Inv-loop μ-loop
-enum-known-more c = search needs
-
-enum-told : tie.Need-enum-told Inv-loop μ-loop
-enum-told c = search needs
-
 returns-2 : tie.Need-returns-2 Inv-loop μ-loop
 returns-2 c = read-end (c .before .before .before .before .before .before .before .before .before .before .before .before .before .loop .inv .1) (c .before .before .before .read-some .ensures) (c .enum-told .given .1)
-
-sub-reads : tie.Need-sub-reads Inv-loop μ-loop
-sub-reads c = search needs
-
-loop-less : tie.Need-loop-less Inv-loop μ-loop
-loop-less c = search needs
 
 loop-again : tie.Need-loop-again Inv-loop μ-loop
 loop-again c =
@@ -63,16 +39,16 @@ read-all-spec =
     (tie.spec
     Inv-loop
     μ-loop
-    buffer-requires
+    (search needs)
     loop-holds
-    is-over-requires
+    (search needs)
     returns
-    slice-aggregate-read-some
-    read-some-requires
-    enum-known-more
-    enum-told
+    (search needs)
+    (search needs)
+    (search needs)
+    (search needs)
     returns-2
-    sub-reads
-    loop-less
+    (search needs)
+    (search needs)
     loop-again
     returns-3)

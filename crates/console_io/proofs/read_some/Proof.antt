@@ -3,17 +3,8 @@ use borrow.Author.Needs.{needs}
 use Rattle.console_io.proofs.read_some.Statement.{statement}
 use Rattle.console_io.proofs.read_some.Tie as tie
 
-read-requires : tie.Need-read-requires
-read-requires c κs = search needs
-
-feed-read-requires : tie.Need-feed-read-requires
-feed-read-requires c κs = search needs
-
-same-length : tie.Need-same-length
-same-length c = search needs
-
 returns : tie.Need-returns
 returns c = record { got = _; fed = c .feed-read .ensures }
 
 pub read-some-spec : {M : Type 1} → statement M
-read-some-spec = tie.close (tie.spec read-requires feed-read-requires same-length returns)
+read-some-spec = tie.close (tie.spec (search needs) (search needs) (search needs) returns)

@@ -5,22 +5,10 @@ use Rattle.console_io.specs.SessionLaws.{ran}
 use Rattle.console_io.proofs.run.Statement.{statement}
 use Rattle.console_io.proofs.run.Tie as tie
 
-new-requires : tie.Need-new-requires
-new-requires c κs = search needs
-
-print-names-requires : tie.Need-print-names-requires
-print-names-requires c κs = search needs
-
-read-all-requires : tie.Need-read-all-requires
-read-all-requires c κs = search needs
-
-finish-requires : tie.Need-finish-requires
-finish-requires c κs = search needs
-
 returns : tie.Need-returns
 returns c = ran (c .before .before .before .before .before .before .before .before .before .before .print-names .ensures) (c .before .before .before .before .before .read-all .ensures) (c .finish .ensures) (c .before .before .before .before .before .before .before .before .before .before .before .new .ensures) refl refl refl refl
 
 pub run-spec : {M : Type 1} → statement M
 run-spec =
     tie.close
-    (tie.spec new-requires print-names-requires read-all-requires finish-requires returns)
+    (tie.spec (search needs) (search needs) (search needs) (search needs) returns)

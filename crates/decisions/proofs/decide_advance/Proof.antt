@@ -8,9 +8,6 @@ use Rattle.decisions.specs.VerdictLaws.{refused-by, gone-by, has-head}
 use Rattle.decisions.proofs.decide_advance.Statement.{statement}
 use Rattle.decisions.proofs.decide_advance.Tie as tie
 
-first-refusal-requires : tie.Need-first-refusal-requires
-first-refusal-requires c κs = search needs
-
 returns : tie.Need-returns
 returns c =
     let a = c .before .before .before .args in
@@ -26,4 +23,4 @@ returns-2 c =
     gone-by (timeTests (a .store .now) (a .second) []) (c .before .before .first-refusal .ensures .is ∙ c .before .if1 .left) (c .head-of .ensures)
 
 pub decide-advance-spec : {M : Type 1} → statement M
-decide-advance-spec = tie.close (tie.spec first-refusal-requires returns head-of-requires returns-2)
+decide-advance-spec = tie.close (tie.spec (λ c κs. search needs) returns head-of-requires returns-2)

@@ -9,9 +9,6 @@ use Rattle.decisions.specs.ReadyLaws.{passed-time}
 use Rattle.decisions.proofs.decide_clearing.Statement.{statement}
 use Rattle.decisions.proofs.decide_clearing.Tie as tie
 
-first-refusal-requires : tie.Need-first-refusal-requires
-first-refusal-requires c κs = search needs
-
 returns : tie.Need-returns
 returns c =
     let a = c .before .before .before .args in
@@ -30,9 +27,6 @@ clear-refusal-requires c κs =
       entry .pre,
     )
 
-ruled-requires : tie.Need-ruled-requires
-ruled-requires c κs = search needs
-
 returns-2 : tie.Need-returns-2
 returns-2 c =
     let a = c .before .before .before .before .before .before .args in
@@ -41,4 +35,6 @@ returns-2 c =
     (c .before .clear-refusal .ensures) (c .ruled .ensures)
 
 pub decide-clearing-spec : {M : Type 1} → statement M
-decide-clearing-spec = tie.close (tie.spec first-refusal-requires returns head-of-requires clear-refusal-requires ruled-requires returns-2)
+decide-clearing-spec =
+    tie.close (tie.spec (λ c κs. search needs) returns head-of-requires clear-refusal-requires (λ c κs. search needs)
+    returns-2)

@@ -9,9 +9,6 @@ use Rattle.decisions.specs.ReadyLaws.{passed-time}
 use Rattle.decisions.proofs.decide_set.Statement.{statement}
 use Rattle.decisions.proofs.decide_set.Tie as tie
 
-first-refusal-requires : tie.Need-first-refusal-requires
-first-refusal-requires c κs = search needs
-
 returns : tie.Need-returns
 returns c =
     let a = c .before .before .before .args in
@@ -28,9 +25,6 @@ set-refusal-requires c κs =
     passed-time (entry .args .store .now) (entry .args .second) (c .before .before .first-refusal .ensures .is) (c .before .if1 .left)
     (c .head-of .ensures) .ready
 
-ruled-requires : tie.Need-ruled-requires
-ruled-requires c κs = search needs
-
 returns-2 : tie.Need-returns-2
 returns-2 c =
     let a = c .before .before .before .before .before .before .args in
@@ -39,4 +33,6 @@ returns-2 c =
     (c .before .set-refusal .ensures) (c .ruled .ensures)
 
 pub decide-set-spec : {M : Type 1} → statement M
-decide-set-spec = tie.close (tie.spec first-refusal-requires returns head-of-requires set-refusal-requires ruled-requires returns-2)
+decide-set-spec =
+    tie.close (tie.spec (λ c κs. search needs) returns head-of-requires set-refusal-requires (λ c κs. search needs)
+    returns-2)

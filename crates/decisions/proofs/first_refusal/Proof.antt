@@ -4,13 +4,10 @@ use mathlib.Core.List.{[]}
 use native.Mathlib.Omega.{arith}
 use borrow.Author.Needs.{needs}
 use Rattle.layout.specs.declared.head.HeadAnswer.the-variants.{Read}
-use Rattle.layout.specs.HeadLaws.{head-read, answer-read}
+use Rattle.layout.specs.HeadLaws.{head-read, head-passes, passes-read}
 use Rattle.decisions.specs.VerdictLaws.{head-refused, head-passed}
 use Rattle.decisions.proofs.first_refusal.Statement.{statement}
 use Rattle.decisions.proofs.first_refusal.Tie as tie
-
-head-refusal-requires : tie.Need-head-refusal-requires
-head-refusal-requires c κs = search needs
 
 returns : tie.Need-returns
 returns c =
@@ -18,14 +15,12 @@ returns c =
     head-refused (entry .args .store .now) (entry .args .second) [] (c .before .head-refusal .ensures) (c .if1 .taken)
 
 head-of-requires : tie.Need-head-of-requires
-head-of-requires c κs =
-    answer-read (c .before .before .before .args .store .now) (c .before .head-refusal .ensures) (c .if1 .left) .0
+head-of-requires c κs = head-passes _ (sym (c .before .head-refusal .ensures) ∙ c .if1 .left) .0
 
 time-refusal-requires : tie.Need-time-refusal-requires
 time-refusal-requires c κs =
-    let ws = c .before .before .before .before .args .store .now in
-    head-read ws
-    (sym (ap Read (c .head-of .ensures) ∙ answer-read ws (c .before .before .head-refusal .ensures) (c .before .if1 .left) .1)) (omega arith) .sound
+    let p = head-passes _ (sym (c .before .before .head-refusal .ensures) ∙ c .before .if1 .left) in
+    head-read _ (passes-read _ (p .0) (p .1) ∙ ap Read (sym (c .head-of .ensures))) (omega arith) .sound
 
 returns-2 : tie.Need-returns-2
 returns-2 c =
@@ -34,4 +29,5 @@ returns-2 c =
     (c .before .before .if1 .left) (c .before .head-of .ensures) (c .time-refusal .ensures)
 
 pub first-refusal-spec : {M : Type 1} → statement M
-first-refusal-spec = tie.close (tie.spec head-refusal-requires returns head-of-requires time-refusal-requires returns-2)
+first-refusal-spec =
+    tie.close (tie.spec (λ c κs. search needs) returns head-of-requires time-refusal-requires returns-2)

@@ -6,9 +6,6 @@ use Rattle.decisions.specs.TestLaws.{hit, miss, none, short-by}
 use Rattle.decisions.proofs.time_refusal.Statement.{statement}
 use Rattle.decisions.proofs.time_refusal.Tie as tie
 
-words-requires : tie.Need-words-requires
-words-requires c κs = search needs
-
 returns : tie.Need-returns
 returns c = hit (short-by (length (c .before .before .before .args .store .now)) (c .before .words .ensures .is) (lt-ltb _ _ (c .if1 .taken)))
 
@@ -30,4 +27,4 @@ returns-4 c =
     (miss (lt-leb _ _ (c .before .before .if2 .left)) (miss (le-ltb _ _ (c .if3 .left)) none))
 
 pub time-refusal-spec : {M : Type 1} → statement M
-time-refusal-spec = tie.close (tie.spec words-requires returns returns-2 returns-3 returns-4)
+time-refusal-spec = tie.close (tie.spec (λ c κs. search needs) returns returns-2 returns-3 returns-4)

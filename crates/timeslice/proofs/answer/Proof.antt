@@ -4,35 +4,8 @@ use borrow.Author.Needs.{needs}
 use Rattle.timeslice.proofs.answer.Statement.{statement}
 use Rattle.timeslice.proofs.answer.Tie as tie
 
-look-requires : tie.Need-look-requires
-look-requires c κs = search needs
-
-enum-known-slice : tie.Need-enum-known-slice
-enum-known-slice c = search needs
-
-enum-told : tie.Need-enum-told
-enum-told c = search needs
-
-zero-all-requires : tie.Need-zero-all-requires
-zero-all-requires c κs = search needs
-
-zero-all-requires-2 : tie.Need-zero-all-requires-2
-zero-all-requires-2 c κs = search needs
-
-same-length : tie.Need-same-length
-same-length c = search needs
-
-same-length-2 : tie.Need-same-length-2
-same-length-2 c = search needs
-
 returns : tie.Need-returns
 returns c = answer-whole (c .before .before .before .before .before .before .before .look .ensures) (c .before .slice .given .1)
-
-same-length-3 : tie.Need-same-length-3
-same-length-3 c = search needs
-
-same-length-4 : tie.Need-same-length-4
-same-length-4 c = search needs
 
 returns-2 : tie.Need-returns-2
 returns-2 c =
@@ -47,14 +20,14 @@ pub answer-spec : {M : Type 1} → statement M
 answer-spec =
     tie.close
     (tie.spec
-    look-requires
-    enum-known-slice
-    enum-told
-    zero-all-requires
-    zero-all-requires-2
-    same-length
-    same-length-2
+    (λ c κs. search needs)
+    (search needs)
+    (search needs)
+    (search needs)
+    (search needs)
+    (search needs)
+    (search needs)
     returns
-    same-length-3
-    same-length-4
+    (search needs)
+    (search needs)
     returns-2)

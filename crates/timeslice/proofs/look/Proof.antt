@@ -4,15 +4,6 @@ use borrow.Author.Needs.{needs}
 use Rattle.timeslice.proofs.look.Statement.{statement}
 use Rattle.timeslice.proofs.look.Tie as tie
 
-search-requires : tie.Need-search-requires
-search-requires c κs = search needs
-
-enum-known-found : tie.Need-enum-known-found
-enum-known-found c = search needs
-
-enum-told : tie.Need-enum-told
-enum-told c = search needs
-
 returns : tie.Need-returns
 returns c = slices-nowhere (c .before .before .before .before .before .before .pre .0) _ (c .before .before .search .ensures) _ _ (c .enum-told .given .1)
 
@@ -23,18 +14,6 @@ path-requires c κs =
     let start = at-search .before .before .before .before in
     (start .pre .0, path-reach (start .pre .0) _ (at-search .search .ensures) _ _ (at-found .found .given .1) (start .pre .1))
 
-enum-known-counts : tie.Need-enum-known-counts
-enum-known-counts c = search needs
-
-enum-told-2 : tie.Need-enum-told-2
-enum-told-2 c = search needs
-
-same-length : tie.Need-same-length
-same-length c = search needs
-
-same-length-2 : tie.Need-same-length-2
-same-length-2 c = search needs
-
 returns-2 : tie.Need-returns-2
 returns-2 c =
     let at-path = c .before .before .before .before .before .before in
@@ -43,12 +22,6 @@ returns-2 c =
     let start = at-search .before .before .before .before in
     slices-unsound (start .pre .0) _ (at-search .search .ensures) _ _ (at-found .found .given .1) (at-path .path .ensures)
     (c .enum-told2 .given .1)
-
-same-length-3 : tie.Need-same-length-3
-same-length-3 c = search needs
-
-same-length-4 : tie.Need-same-length-4
-same-length-4 c = search needs
 
 returns-3 : tie.Need-returns-3
 returns-3 c =
@@ -63,16 +36,16 @@ pub look-spec : {M : Type 1} → statement M
 look-spec =
     tie.close
     (tie.spec
-    search-requires
-    enum-known-found
-    enum-told
+    (λ c κs. search needs)
+    (search needs)
+    (search needs)
     returns
     path-requires
-    enum-known-counts
-    enum-told-2
-    same-length
-    same-length-2
+    (search needs)
+    (search needs)
+    (search needs)
+    (search needs)
     returns-2
-    same-length-3
-    same-length-4
+    (search needs)
+    (search needs)
     returns-3)

@@ -1,45 +1,58 @@
--- `look_back` meets its contract: refusals 2 and 3 are the head's, the others those of a head that was read.
+-- `look_back` meets its contract: refusals 2 and 3 are the head's, 4 to 11 its own tests', 12 the walk's.
 use mathlib.Core.Path.{sym, _∙_}
 use native.Mathlib.Omega.{arith}
-use Rattle.layout.specs.HeadLaws.{head-read}
-use Rattle.timeslice.specs.AnswerLaws.{head-refused}
+use lib.ListN.{length}
 use borrow.Author.Needs.{needs}
+use Rattle.layout.specs.HeadLaws.{HeadRead, head-read}
+use Rattle.timeslice.specs.Answer.{OwnNone}
+use Rattle.timeslice.specs.AnswerLaws.{head-refused, own-refused, own-free, own-passed, read-ready, buffers-ready}
 use Rattle.timeslice.proofs.look_back.Statement.{statement}
 use Rattle.timeslice.proofs.look_back.Tie as tie
 
-read-head-requires : tie.Need-read-head-requires
-read-head-requires c κs = search needs
+-- the head that was read
+read : (c : tie.After-known-told2)
+    → let start = c .before .before .before .before .before .before .before in
+    HeadRead (start .args .store .now) (c .before .h .given .0 .0)
+read c = head-read _ (sym (c .before .before .before .read-head .ensures) ∙ c .before .h .given .1) (omega arith)
 
-enum-known-n : tie.Need-enum-known-n
-enum-known-n c = search needs
-
-enum-known-h : tie.Need-enum-known-h
-enum-known-h c = search needs
-
-with-head-requires : tie.Need-with-head-requires
-with-head-requires c κs = head-read _ (sym (c .before .before .before .before .before .read-head .ensures) ∙ c .before .before .before .h .given .1) (omega arith)
+turned-away-requires : tie.Need-turned-away-requires
+turned-away-requires c κs = read c .sound .within
 
 returns : tie.Need-returns
-returns c = head-refused _ _ _ _ (sym (c .before .before .before .read-head .ensures) ∙ c .before .n .given .1)
+returns c = own-refused (read (c .before .before)) (c .before .turned-away .ensures) (c .if1 .taken)
 
-same-length : tie.Need-same-length
-same-length c = search needs
+-- none of its own tests applies
+none : (c : tie.Else1)
+    → let at-h = c .before .before .before in
+    let a = at-h .before .before .before .before .before .before .args in
+    OwnNone (at-h .h .given .0 .0) (length (a .store .now)) (a .second) (length (a .rows .now)) (length (a .list .now))
+none c = own-free (c .before .turned-away .ensures) (c .if1 .left)
 
-same-length-2 : tie.Need-same-length-2
-same-length-2 c = search needs
+answer-requires : tie.Need-answer-requires
+answer-requires c κs =
+    let at-if1 = c .before .before in
+    (read-ready (read (at-if1 .before .before)) (none at-if1), buffers-ready (none at-if1))
 
 returns-2 : tie.Need-returns-2
-returns-2 c = search needs
+returns-2 c = head-refused _ _ _ _ (sym (c .before .before .before .read-head .ensures) ∙ c .before .n .given .1)
+
+returns-3 : tie.Need-returns-3
+returns-3 c =
+    let at-answer = c .before .before .before .before in
+    let at-if1 = at-answer .before .before .before in
+    own-passed (read (at-if1 .before .before)) (none at-if1) (at-answer .answer .ensures)
 
 pub look-back-spec : {M : Type 1} → statement M
 look-back-spec =
     tie.close
     (tie.spec
-    read-head-requires
-    enum-known-n
-    enum-known-h
-    with-head-requires
+    (search needs)
+    (search needs)
+    (search needs)
+    turned-away-requires
     returns
-    same-length
-    same-length-2
-    returns-2)
+    answer-requires
+    returns-2
+    (search needs)
+    (search needs)
+    returns-3)

@@ -5,27 +5,16 @@ use borrow.Author.Needs.{needs}
 use Rattle.timeslice.proofs.turned_away.Statement.{statement}
 use Rattle.timeslice.proofs.turned_away.Tie as tie
 
-words-requires : tie.Need-words-requires
-words-requires c κs = search needs
-
 returns : tie.Need-returns
-returns c =
-    let a = c .before .before .args in
-    own-short (a .h) (a .words) (a .second) (a .rows) (a .list) (c .before .words .ensures) (c .if1 .taken)
+returns c = own-short (c .before .words .ensures) (c .if1 .taken)
 
 returns-2 : tie.Need-returns-2
-returns-2 c =
-    let at-words = c .before .before in
-    let a = at-words .before .args in
-    own-open (a .h) (a .words) (a .second) (a .rows) (a .list) (at-words .words .ensures) (c .before .if1 .left) (c .if2 .taken)
+returns-2 c = own-open (c .before .before .words .ensures) (c .before .if1 .left) (c .if2 .taken)
 
 returns-3 : tie.Need-returns-3
 returns-3 c =
     let at-if2 = c .before .before in
-    let at-words = at-if2 .before .before in
-    let a = at-words .before .args in
-    own-late (a .h) (a .words) (a .second) (a .rows) (a .list) (at-words .words .ensures) (at-if2 .before .if1 .left) (at-if2 .if2 .left)
-    (omega arith) (c .if3 .taken)
+    own-late (at-if2 .before .before .words .ensures) (at-if2 .before .if1 .left) (at-if2 .if2 .left) (omega arith) (c .if3 .taken)
 
 -- ---- the buffers, once the second is in time
 second-in-time : (c : tie.Else3)
@@ -33,44 +22,32 @@ second-in-time : (c : tie.Else3)
     InTime (a .h) (a .words) (a .second)
 second-in-time c =
     let at-if2 = c .before .before in
-    let at-words = at-if2 .before .before in
-    let a = at-words .before .args in
-    in-time (a .h) (a .words) (a .second) (a .rows) (a .list) (at-words .words .ensures) (at-if2 .before .if1 .left) (at-if2 .if2 .left)
-    (omega arith) (c .if3 .left)
-
-cast-if4 : tie.Need-cast-if4
-cast-if4 c = search needs
-
-mul-if4 : tie.Need-mul-if4
-mul-if4 c = search needs
+    in-time (at-if2 .before .before .words .ensures) (at-if2 .before .if1 .left) (at-if2 .if2 .left) (omega arith) (c .if3 .left)
 
 returns-4 : tie.Need-returns-4
-returns-4 c = own-rows _ _ _ _ _ (second-in-time (c .before .before)) (c .if4 .taken)
-
-cast-if5 : tie.Need-cast-if5
-cast-if5 c = search needs
+returns-4 c = own-rows (second-in-time (c .before .before)) (c .if4 .taken)
 
 returns-5 : tie.Need-returns-5
 returns-5 c =
     let at-if4 = c .before .before in
-    own-list _ _ _ _ _ (second-in-time (at-if4 .before .before)) (at-if4 .if4 .left) (c .if5 .taken)
+    own-list (second-in-time (at-if4 .before .before)) (at-if4 .if4 .left) (c .if5 .taken)
 
 returns-6 : tie.Need-returns-6
 returns-6 c =
     let at-if4 = c .before .before in
-    own-none _ _ _ _ _ (second-in-time (at-if4 .before .before)) (at-if4 .if4 .left) (c .if5 .left)
+    own-none (second-in-time (at-if4 .before .before)) (at-if4 .if4 .left) (c .if5 .left)
 
 pub turned-away-spec : {M : Type 1} → statement M
 turned-away-spec =
     tie.close
     (tie.spec
-    words-requires
+    (search needs)
     returns
     returns-2
     returns-3
-    cast-if4
-    mul-if4
+    (search needs)
+    (search needs)
     returns-4
-    cast-if5
+    (search needs)
     returns-5
     returns-6)

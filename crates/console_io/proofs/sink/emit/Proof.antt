@@ -4,30 +4,6 @@ use borrow.Author.Needs.{needs}
 use Rattle.console_io.proofs.sink.emit.Statement.{statement}
 use Rattle.console_io.proofs.sink.emit.Tie as tie
 
-enum-known-sink : tie.Need-enum-known-sink
-enum-known-sink c = search needs
-
-write-all-requires : tie.Need-write-all-requires
-write-all-requires c κs = search needs
-
-enum-known-sink-2 : tie.Need-enum-known-sink-2
-enum-known-sink-2 c = search needs
-
-next-number-requires : tie.Need-next-number-requires
-next-number-requires c κs = search needs
-
-gives-all-requires : tie.Need-gives-all-requires
-gives-all-requires c κs = search needs
-
-enum-told : tie.Need-enum-told
-enum-told c = search needs
-
-enum-known-sink-3 : tie.Need-enum-known-sink-3
-enum-known-sink-3 c = search needs
-
-pass-requires : tie.Need-pass-requires
-pass-requires c κs = search needs
-
 returns : tie.Need-returns
 returns c = emit-written (c .before .before .sink .given .1)
 
@@ -47,14 +23,14 @@ pub emit-spec : {M : Type 1} → statement M
 emit-spec =
     tie.close
     (tie.spec
-    enum-known-sink
-    write-all-requires
-    enum-known-sink-2
-    next-number-requires
-    gives-all-requires
-    enum-told
-    enum-known-sink-3
-    pass-requires
+    (search needs)
+    (search needs)
+    (search needs)
+    (search needs)
+    (search needs)
+    (search needs)
+    (search needs)
+    (search needs)
     returns
     returns-2
     returns-3

@@ -4,30 +4,6 @@ use borrow.Author.Needs.{needs}
 use Rattle.console_io.proofs.sink.first_difference.Statement.{statement}
 use Rattle.console_io.proofs.sink.first_difference.Tie as tie
 
-enum-told : tie.Need-enum-told
-enum-told c = search needs
-
-enum-known-sink : tie.Need-enum-known-sink
-enum-known-sink c = search needs
-
-next-byte-requires : tie.Need-next-byte-requires
-next-byte-requires c κs = search needs
-
-enum-told-2 : tie.Need-enum-told-2
-enum-told-2 c = search needs
-
-next-number-requires : tie.Need-next-number-requires
-next-number-requires c κs = search needs
-
-enum-told-3 : tie.Need-enum-told-3
-enum-told-3 c = search needs
-
-enum-known-sink-2 : tie.Need-enum-known-sink-2
-enum-known-sink-2 c = search needs
-
-enum-told-4 : tie.Need-enum-told-4
-enum-told-4 c = search needs
-
 returns : tie.Need-returns
 returns c = differs-unasked (c .enum-told .given .1)
 
@@ -47,14 +23,14 @@ pub first-difference-spec : {M : Type 1} → statement M
 first-difference-spec =
     tie.close
     (tie.spec
-    enum-told
-    enum-known-sink
-    next-byte-requires
-    enum-told-2
-    next-number-requires
-    enum-told-3
-    enum-known-sink-2
-    enum-told-4
+    (search needs)
+    (search needs)
+    (search needs)
+    (search needs)
+    (search needs)
+    (search needs)
+    (search needs)
+    (search needs)
     returns
     returns-2
     returns-3

@@ -5,9 +5,6 @@ use Rattle.console_run.specs.Feed.{nextNumber}
 use Rattle.console_run.proofs.feed.next_number.Statement.{statement}
 use Rattle.console_run.proofs.feed.next_number.Tie as tie
 
-add-result : tie.Need-add-result
-add-result c = search needs
-
 returns : tie.Need-returns
 unfolding nextNumber
 returns c = rw (lt-ltb _ _ (c .if1 .taken))
@@ -17,4 +14,4 @@ unfolding nextNumber
 returns-2 c = rw (le-ltb _ _ (c .if1 .left))
 
 pub next-number-spec : {M : Type 1} → statement M
-next-number-spec = tie.close (tie.spec add-result returns returns-2)
+next-number-spec = tie.close (tie.spec (search needs) returns returns-2)

@@ -5,24 +5,6 @@ use Rattle.console_run.specs.PrintLaws.{lineCount}
 use Rattle.console_run.proofs.print.line_count.Statement.{statement}
 use Rattle.console_run.proofs.print.line_count.Tie as tie
 
-enum-told : tie.Need-enum-told
-enum-told c = search needs
-
-enum-told-2 : tie.Need-enum-told-2
-enum-told-2 c = search needs
-
-enum-told-3 : tie.Need-enum-told-3
-enum-told-3 c = search needs
-
-enum-known-said : tie.Need-enum-known-said
-enum-known-said c = search needs
-
-cast-result : tie.Need-cast-result
-cast-result c = search needs
-
-add-result : tie.Need-add-result
-add-result c = search needs
-
 returns : tie.Need-returns
 returns c = search needs
 
@@ -39,12 +21,12 @@ pub line-count-spec : {M : Type 1} → statement M
 line-count-spec =
     tie.close
     (tie.spec
-    enum-told
-    enum-told-2
-    enum-told-3
-    enum-known-said
-    cast-result
-    add-result
+    (search needs)
+    (search needs)
+    (search needs)
+    (search needs)
+    (search needs)
+    (search needs)
     returns
     returns-2
     returns-3

@@ -4,34 +4,10 @@ use Rattle.console_run.specs.PrintLaws.{printed-as, sum-is, row-is}
 use Rattle.console_run.proofs.print.put_slice.Statement.{statement}
 use Rattle.console_run.proofs.print.put_slice.Tie as tie
 
-put-sum-requires : tie.Need-put-sum-requires
-put-sum-requires c κs = search needs
-
-same-length : tie.Need-same-length
-same-length c = search needs
-
 returns : tie.Need-returns
 returns c =
     let at-put-sum = c .before .before in
     printed-as (sum-is _ _ _ _ _ (at-put-sum .before .before .if1 .taken)) (at-put-sum .put-sum .ensures)
-
-mul-at : tie.Need-mul-at
-mul-at c = search needs
-
-word-requires : tie.Need-word-requires
-word-requires c κs = search needs
-
-add-word : tie.Need-add-word
-add-word c = search needs
-
-word-requires-2 : tie.Need-word-requires-2
-word-requires-2 c κs = search needs
-
-put-row-requires : tie.Need-put-row-requires
-put-row-requires c κs = search needs
-
-same-length-2 : tie.Need-same-length-2
-same-length-2 c = search needs
 
 returns-2 : tie.Need-returns-2
 returns-2 c =
@@ -44,13 +20,13 @@ pub put-slice-spec : {M : Type 1} → statement M
 put-slice-spec =
     tie.close
     (tie.spec
-    put-sum-requires
-    same-length
+    (search needs)
+    (search needs)
     returns
-    mul-at
-    word-requires
-    add-word
-    word-requires-2
-    put-row-requires
-    same-length-2
+    (search needs)
+    (search needs)
+    (search needs)
+    (search needs)
+    (search needs)
+    (search needs)
     returns-2)

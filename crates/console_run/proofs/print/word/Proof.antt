@@ -5,12 +5,6 @@ use lib.ListN.{List·getD-eq-default}
 use Rattle.console_run.proofs.print.word.Statement.{statement}
 use Rattle.console_run.proofs.print.word.Tie as tie
 
-mul-result : tie.Need-mul-result
-mul-result c = search needs
-
-shared-slice-read-result : tie.Need-shared-slice-read-result
-shared-slice-read-result c = search needs
-
 returns : tie.Need-returns
 returns c = search needs
 
@@ -18,4 +12,4 @@ returns-2 : tie.Need-returns-2
 returns-2 c = sym (List·getD-eq-default (c .before .args .rows .now) 0 (c .if1 .left))
 
 pub word-spec : {M : Type 1} → statement M
-word-spec = tie.close (tie.spec mul-result shared-slice-read-result returns returns-2)
+word-spec = tie.close (tie.spec (search needs) (search needs) returns returns-2)

@@ -5,24 +5,6 @@ use Rattle.console_run.specs.Console.{askedOf}
 use Rattle.console_run.proofs.turn.asked_of.Statement.{statement}
 use Rattle.console_run.proofs.turn.asked_of.Tie as tie
 
-enum-known-line : tie.Need-enum-known-line
-enum-known-line c = search needs
-
-enum-known-line-2 : tie.Need-enum-known-line-2
-enum-known-line-2 c = search needs
-
-enum-known-line-3 : tie.Need-enum-known-line-3
-enum-known-line-3 c = search needs
-
-enum-known-line-4 : tie.Need-enum-known-line-4
-enum-known-line-4 c = search needs
-
-enum-known-line-5 : tie.Need-enum-known-line-5
-enum-known-line-5 c = search needs
-
-enum-told : tie.Need-enum-told
-enum-told c = search needs
-
 returns : tie.Need-returns
 returns c = sym (ap askedOf (c .before .line .given .1))
 
@@ -45,12 +27,12 @@ pub asked-of-spec : {M : Type 1} → statement M
 asked-of-spec =
     tie.close
     (tie.spec
-    enum-known-line
-    enum-known-line-2
-    enum-known-line-3
-    enum-known-line-4
-    enum-known-line-5
-    enum-told
+    (search needs)
+    (search needs)
+    (search needs)
+    (search needs)
+    (search needs)
+    (search needs)
     returns
     returns-2
     returns-3

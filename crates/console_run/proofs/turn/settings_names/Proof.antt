@@ -5,21 +5,12 @@ use Rattle.console_run.specs.TurnLaws.{names-stand, names-bad, truth}
 use Rattle.console_run.proofs.turn.settings_names.Statement.{statement}
 use Rattle.console_run.proofs.turn.settings_names.Tie as tie
 
-is-settings-names-requires : tie.Need-is-settings-names-requires
-is-settings-names-requires c κs = search needs
-
-fine-requires : tie.Need-fine-requires
-fine-requires c κs = search needs
-
 returns : tie.Need-returns
 returns c = c .fine .ensures ∙ names-stand _ _ _ _ (c .before .before .is-settings-names .ensures .0 (c .before .if1 .taken))
-
-bad-at-requires : tie.Need-bad-at-requires
-bad-at-requires c κs = search needs
 
 returns-2 : tie.Need-returns-2
 returns-2 c = c .bad-at .ensures ∙ names-bad _ _ _ _ (λ e. truth (c .before .before .is-settings-names .ensures .1 e) (c .before .if1 .left))
 
 pub settings-names-spec : {M : Type 1} → statement M
 settings-names-spec =
-    tie.close (tie.spec is-settings-names-requires fine-requires returns bad-at-requires returns-2)
+    tie.close (tie.spec (search needs) (search needs) returns (search needs) returns-2)

@@ -19,21 +19,12 @@ returns : tie.Need-returns Inv-loop μ-loop
 unfolding numberOf
 returns c = simp (eq-eqb _ _ (c .if1 .taken))
 
-spare-zero-requires : tie.Need-spare-zero-requires Inv-loop μ-loop
-spare-zero-requires c κs = search needs
-
 returns-2 : tie.Need-returns-2 Inv-loop μ-loop
 unfolding numberOf
 returns-2 c = simp (ne-eqb _ _ (c .before .before .if1 .left), sym (c .before .spare-zero .ensures) ∙ c .if2 .taken)
 
 loop-holds : tie.Need-loop-holds Inv-loop μ-loop
 loop-holds c = read-start _ _ (c .before .before .if1 .left) (sym (c .before .spare-zero .ensures) ∙ c .if2 .left)
-
-shared-slice-read-wide : tie.Need-shared-slice-read-wide Inv-loop μ-loop
-shared-slice-read-wide c = search needs
-
-wide-requires : tie.Need-wide-requires Inv-loop μ-loop
-wide-requires c κs = search needs
 
 returns-3 : tie.Need-returns-3 Inv-loop μ-loop
 returns-3 c =
@@ -46,32 +37,17 @@ returns-4 c =
     (c .before .before .before .before .loop-test .taken) (c .before .before .wide .ensures) (c .before .if3 .left)
     (c .if4 .taken)
 
-mul-value : tie.Need-mul-value Inv-loop μ-loop
-mul-value c = search needs
-
-add-value : tie.Need-add-value Inv-loop μ-loop
-add-value c = search needs
-
 returns-5 : tie.Need-returns-5 Inv-loop μ-loop
 returns-5 c =
     read-over (c .before .before .before .before .before .before .loop .inv)
     (c .before .before .before .before .before .loop-test .taken) (c .before .before .before .wide .ensures)
     (c .before .before .if3 .left) (c .before .if4 .left) (c .if5 .taken)
 
-add-i : tie.Need-add-i Inv-loop μ-loop
-add-i c = search needs
-
-loop-less : tie.Need-loop-less Inv-loop μ-loop
-loop-less c = search needs
-
 loop-again : tie.Need-loop-again Inv-loop μ-loop
 loop-again c =
     read-next (c .before .before .before .before .before .before .loop .inv)
     (c .before .before .before .before .before .loop-test .taken) (c .before .before .before .wide .ensures)
     (c .before .before .if3 .left) (c .before .if4 .left) (c .if5 .left)
-
-cast-t16 : tie.Need-cast-t16 Inv-loop μ-loop
-cast-t16 c = search needs
 
 returns-6 : tie.Need-returns-6 Inv-loop μ-loop
 returns-6 c = read-end (c .before .loop .inv) (c .loop-test .left)
@@ -83,18 +59,18 @@ decimal-up-to-spec =
     Inv-loop
     μ-loop
     returns
-    spare-zero-requires
+    (search needs)
     returns-2
     loop-holds
-    shared-slice-read-wide
-    wide-requires
+    (search needs)
+    (search needs)
     returns-3
     returns-4
-    mul-value
-    add-value
+    (search needs)
+    (search needs)
     returns-5
-    add-i
-    loop-less
+    (search needs)
+    (search needs)
     loop-again
-    cast-t16
+    (search needs)
     returns-6)

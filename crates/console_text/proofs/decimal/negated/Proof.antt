@@ -8,12 +8,6 @@ use Rattle.console_text.specs.declared.decimal.Number.the-variants.{Plai
 use Rattle.console_text.proofs.decimal.negated.Statement.{statement}
 use Rattle.console_text.proofs.decimal.negated.Tie as tie
 
-enum-known-size : tie.Need-enum-known-size
-enum-known-size c = search needs
-
-enum-told : tie.Need-enum-told
-enum-told c = search needs
-
 returns : tie.Need-returns
 unfolding negated
 returns c = simp (c .enum-told .given .1)
@@ -22,16 +16,10 @@ returns-2 : tie.Need-returns-2
 unfolding negated
 returns-2 c = simp (c .before .before .size .given .1, eq-eqb _ _ (c .if1 .taken))
 
-sub-t4 : tie.Need-sub-t4
-sub-t4 c = search needs
-
-add-t5 : tie.Need-add-t5
-add-t5 c = search needs
-
 returns-3 : tie.Need-returns-3
 unfolding negated
 returns-3 c = simp (c .before .before .size .given .1, ne-eqb _ _ (c .if1 .left)) (ap Plain (omega arith))
 
 pub negated-spec : {M : Type 1} → statement M
 negated-spec =
-    tie.close (tie.spec enum-known-size enum-told returns returns-2 sub-t4 add-t5 returns-3)
+    tie.close (tie.spec (search needs) (search needs) returns returns-2 (search needs) (search needs) returns-3)

@@ -9,12 +9,9 @@ returns : tie.Need-returns
 unfolding spareZero
 returns c = simp (lt-leb _ _ (c .if1 .taken))
 
-shared-slice-read-result : tie.Need-shared-slice-read-result
-shared-slice-read-result c = search needs
-
 returns-2 : tie.Need-returns-2
 unfolding spareZero
 returns-2 c = simp (le-leb _ _ (c .before .if1 .left))
 
 pub spare-zero-spec : {M : Type 1} → statement M
-spare-zero-spec = tie.close (tie.spec returns shared-slice-read-result returns-2)
+spare-zero-spec = tie.close (tie.spec returns (search needs) returns-2)

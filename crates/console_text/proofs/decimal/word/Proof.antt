@@ -4,12 +4,9 @@ use Rattle.console_text.specs.Decimal.{wordOf}
 use Rattle.console_text.proofs.decimal.word.Statement.{statement}
 use Rattle.console_text.proofs.decimal.word.Tie as tie
 
-decimal-up-to-requires : tie.Need-decimal-up-to-requires
-decimal-up-to-requires c κs = search needs
-
 returns : tie.Need-returns
 unfolding wordOf
 returns c = search needs
 
 pub word-spec : {M : Type 1} → statement M
-word-spec = tie.close (tie.spec decimal-up-to-requires returns)
+word-spec = tie.close (tie.spec (search needs) returns)

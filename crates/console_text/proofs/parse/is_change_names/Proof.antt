@@ -5,15 +5,9 @@ use Rattle.console_text.specs.Input.{changeNames}
 use Rattle.console_text.proofs.parse.is_change_names.Statement.{statement}
 use Rattle.console_text.proofs.parse.is_change_names.Tie as tie
 
-slice-aggregate-same : tie.Need-slice-aggregate-same
-slice-aggregate-same c = search needs
-
-same-requires : tie.Need-same-requires
-same-requires c κs = search needs
-
 returns : tie.Need-returns
 unfolding changeNames bytes
 returns c = c .same .ensures
 
 pub is-change-names-spec : {M : Type 1} → statement M
-is-change-names-spec = tie.close (tie.spec slice-aggregate-same same-requires returns)
+is-change-names-spec = tie.close (tie.spec (search needs) (search needs) returns)

@@ -5,27 +5,9 @@ use Rattle.console_text.specs.Input.{given, settingsOf}
 use Rattle.console_text.proofs.parse.settings_of.Statement.{statement}
 use Rattle.console_text.proofs.parse.settings_of.Tie as tie
 
-word-requires : tie.Need-word-requires
-word-requires c κs = search needs
-
-enum-known-b : tie.Need-enum-known-b
-enum-known-b c = search needs
-
-enum-told : tie.Need-enum-told
-enum-told c = search needs
-
 returns : tie.Need-returns
 unfolding given settingsOf
 returns c = simp (sym (c .before .before .word .ensures) ∙ c .enum-told .given .1)
-
-word-requires-2 : tie.Need-word-requires-2
-word-requires-2 c κs = search needs
-
-enum-known-q : tie.Need-enum-known-q
-enum-known-q c = search needs
-
-enum-told-2 : tie.Need-enum-told-2
-enum-told-2 c = search needs
 
 returns-2 : tie.Need-returns-2
 unfolding given settingsOf
@@ -34,15 +16,6 @@ returns-2 c =
       sym (c .before .before .before .before .before .before .word .ensures) ∙ c .before .before .before .before .b .given .1,
       sym (c .before .before .word2 .ensures) ∙ c .enum-told2 .given .1,
     )
-
-word-requires-3 : tie.Need-word-requires-3
-word-requires-3 c κs = search needs
-
-enum-known-n : tie.Need-enum-known-n
-enum-known-n c = search needs
-
-enum-told-3 : tie.Need-enum-told-3
-enum-told-3 c = search needs
 
 returns-3 : tie.Need-returns-3
 unfolding given settingsOf
@@ -57,15 +30,6 @@ returns-3 c =
       sym (at-word2 .word2 .ensures) ∙ at-q .q .given .1,
       sym (at-word3 .word3 .ensures) ∙ c .enum-told3 .given .1,
     )
-
-word-requires-4 : tie.Need-word-requires-4
-word-requires-4 c κs = search needs
-
-enum-known-d : tie.Need-enum-known-d
-enum-known-d c = search needs
-
-enum-told-4 : tie.Need-enum-told-4
-enum-told-4 c = search needs
 
 returns-4 : tie.Need-returns-4
 unfolding given settingsOf
@@ -106,20 +70,20 @@ pub settings-of-spec : {M : Type 1} → statement M
 settings-of-spec =
     tie.close
     (tie.spec
-    word-requires
-    enum-known-b
-    enum-told
+    (search needs)
+    (search needs)
+    (search needs)
     returns
-    word-requires-2
-    enum-known-q
-    enum-told-2
+    (search needs)
+    (search needs)
+    (search needs)
     returns-2
-    word-requires-3
-    enum-known-n
-    enum-told-3
+    (search needs)
+    (search needs)
+    (search needs)
     returns-3
-    word-requires-4
-    enum-known-d
-    enum-told-4
+    (search needs)
+    (search needs)
+    (search needs)
     returns-4
     returns-5)

@@ -4,9 +4,6 @@ use Rattle.console_text.specs.InputLaws.{sign-one, sign-none}
 use Rattle.console_text.proofs.parse.sign_of.Statement.{statement}
 use Rattle.console_text.proofs.parse.sign_of.Tie as tie
 
-shared-slice-read-result : tie.Need-shared-slice-read-result
-shared-slice-read-result c = search needs
-
 returns : tie.Need-returns
 returns c = sign-one _ (c .before .if1 .taken)
 
@@ -14,4 +11,4 @@ returns-2 : tie.Need-returns-2
 returns-2 c = sign-none _ (c .if1 .left)
 
 pub sign-of-spec : {M : Type 1} → statement M
-sign-of-spec = tie.close (tie.spec shared-slice-read-result returns returns-2)
+sign-of-spec = tie.close (tie.spec (search needs) returns returns-2)

@@ -8,67 +8,38 @@ use Rattle.console_text.specs.OutputLaws.{kn-put}
 use Rattle.console_text.proofs.print.put_kn.Statement.{statement}
 use Rattle.console_text.proofs.print.put_kn.Tie as tie
 
-tenths-of-requires : tie.Need-tenths-of-requires
-tenths-of-requires c κs = search needs
-
-put-sign-requires : tie.Need-put-sign-requires
-put-sign-requires c κs = search needs
-
-put-decimal-requires : tie.Need-put-decimal-requires
-put-decimal-requires c κs =
+put-number-requires : tie.Need-put-number-requires
+put-number-requires c κs =
     let at-put-sign = c .before .before .before in
-    let entry = at-put-sign .before .before .before .before in
     let sign = at-put-sign .put-sign .ensures in
-    omega (arith, entry .pre)
+    omega (arith, at-put-sign .before .before .before .before .pre)
 
 put-byte-requires : tie.Need-put-byte-requires
 put-byte-requires c κs =
-    let at-put-decimal = c .before .before .before in
-    let at-put-sign = at-put-decimal .before .before .before .before in
-    let entry = at-put-sign .before .before .before .before in
+    let at-put-number = c .before .before .before .before in
+    let at-put-sign = at-put-number .before .before .before .before in
     let sign = at-put-sign .put-sign .ensures in
-    let whole = at-put-decimal .put-decimal .ensures in
-    omega (arith, entry .pre)
-
-digit-requires : tie.Need-digit-requires
-digit-requires c κs = search needs
-
-put-byte-requires-2 : tie.Need-put-byte-requires-2
-put-byte-requires-2 c κs =
-    let at-put-byte = c .before .before .before .before in
-    let at-put-decimal = at-put-byte .before .before .before .before in
-    let at-put-sign = at-put-decimal .before .before .before .before in
-    let entry = at-put-sign .before .before .before .before in
-    let sign = at-put-sign .put-sign .ensures in
-    let whole = at-put-decimal .put-decimal .ensures in
-    let point = at-put-byte .put-byte .ensures in
-    omega (arith, entry .pre)
-
-same-length : tie.Need-same-length
-same-length c = search needs
+    let whole = at-put-number .put-number .ensures in
+    omega (arith, at-put-sign .before .before .before .before .pre)
 
 returns : tie.Need-returns
 returns c =
-    let at-put-byte2 = c .before .before in
-    let at-digit = at-put-byte2 .before in
-    let at-put-byte = at-digit .before .before .before .before in
-    let at-put-decimal = at-put-byte .before .before .before .before in
-    let at-put-sign = at-put-decimal .before .before .before .before in
-    let at-tenths-of = at-put-sign .before .before in
-    kn-put (search needs) (at-put-sign .put-sign .ensures)
-    (rw (at-tenths-of .tenths-of .ensures) at (at-put-decimal .put-decimal .ensures)) (at-put-byte .put-byte .ensures)
-    (at-digit .digit .ensures ∙ ap (λ t. digitByte (t % 10)) (at-tenths-of .tenths-of .ensures))
-    (at-put-byte2 .put-byte2 .ensures)
+    let at-put-byte = c .before .before in
+    let at-digit = at-put-byte .before in
+    let at-put-number = at-digit .before .before .before .before in
+    let at-put-sign = at-put-number .before .before .before .before in
+    let tenths = at-put-sign .before .before .tenths-of .ensures in
+    kn-put (search needs) (at-put-sign .put-sign .ensures) (rw tenths at (at-put-number .put-number .ensures))
+    (at-digit .digit .ensures ∙ ap (λ t. digitByte (t % 10)) tenths) (at-put-byte .put-byte .ensures)
 
 pub put-kn-spec : {M : Type 1} → statement M
 put-kn-spec =
     tie.close
     (tie.spec
-    tenths-of-requires
-    put-sign-requires
-    put-decimal-requires
+    (search needs)
+    (search needs)
+    put-number-requires
+    (search needs)
     put-byte-requires
-    digit-requires
-    put-byte-requires-2
-    same-length
+    (search needs)
     returns)

@@ -9,19 +9,10 @@ use Rattle.console_text.proofs.print.put_names.Tie as tie
 returns : tie.Need-returns
 returns c = printed-not _ _ (c .if1 .taken)
 
-slice-aggregate-put-text : tie.Need-slice-aggregate-put-text
-slice-aggregate-put-text c = search needs
-
-put-text-requires : tie.Need-put-text-requires
-put-text-requires c κs = search needs
-
-same-length : tie.Need-same-length
-same-length c = search needs
-
 returns-2 : tie.Need-returns-2
 unfolding outputNames bytes
 returns-2 c = printed (c .before .before .before .before .before .if1 .left) (c .before .before .put-text .ensures)
 
 pub put-names-spec : {M : Type 1} → statement M
 put-names-spec =
-    tie.close (tie.spec returns slice-aggregate-put-text put-text-requires same-length returns-2)
+    tie.close (tie.spec returns (search needs) (search needs) (search needs) returns-2)

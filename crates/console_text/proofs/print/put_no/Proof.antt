@@ -5,18 +5,9 @@ use Rattle.console_text.specs.Output.{noLine}
 use Rattle.console_text.proofs.print.put_no.Statement.{statement}
 use Rattle.console_text.proofs.print.put_no.Tie as tie
 
-slice-aggregate-put-numbers : tie.Need-slice-aggregate-put-numbers
-slice-aggregate-put-numbers c = search needs
-
-put-numbers-requires : tie.Need-put-numbers-requires
-put-numbers-requires c κs = search needs
-
-same-length : tie.Need-same-length
-same-length c = search needs
-
 returns : tie.Need-returns
 unfolding noLine bytes
 returns c = c .before .before .put-numbers .ensures
 
 pub put-no-spec : {M : Type 1} → statement M
-put-no-spec = tie.close (tie.spec slice-aggregate-put-numbers put-numbers-requires same-length returns)
+put-no-spec = tie.close (tie.spec (search needs) (search needs) (search needs) returns)

@@ -2,27 +2,13 @@
 use borrow.Author.Needs.{needs}
 use Rattle.console_text.specs.Bytes.{bytes}
 use Rattle.console_text.specs.Output.{rowLine}
+use Rattle.console_text.specs.PieceLaws.{piece-then}
 use Rattle.console_text.specs.OutputLaws.{printed-not, line-put}
 use Rattle.console_text.proofs.print.put_row.Statement.{statement}
 use Rattle.console_text.proofs.print.put_row.Tie as tie
 
 returns : tie.Need-returns
 returns c = printed-not _ _ (c .if1 .taken)
-
-slice-aggregate-put-start : tie.Need-slice-aggregate-put-start
-slice-aggregate-put-start c = search needs
-
-put-start-requires : tie.Need-put-start-requires
-put-start-requires c κs = search needs
-
-put-kn-requires : tie.Need-put-kn-requires
-put-kn-requires c κs = search needs
-
-put-byte-requires : tie.Need-put-byte-requires
-put-byte-requires c κs = search needs
-
-same-length : tie.Need-same-length
-same-length c = search needs
 
 returns-2 : tie.Need-returns-2
 unfolding rowLine bytes
@@ -31,17 +17,17 @@ returns-2 c =
     let at-put-kn = at-put-byte .before .before .before .before in
     let at-put-start = at-put-kn .before .before .before .before in
     let at-if1 = at-put-start .before .before .before in
-    line-put (at-if1 .if1 .left) (at-put-start .put-start .ensures) (at-put-kn .put-kn .ensures .piece)
-    (at-put-byte .put-byte .ensures)
+    line-put _ (at-if1 .if1 .left) (at-put-start .put-start .ensures)
+    (piece-then (at-put-kn .put-kn .ensures .piece) (at-put-byte .put-byte .ensures))
 
 pub put-row-spec : {M : Type 1} → statement M
 put-row-spec =
     tie.close
     (tie.spec
     returns
-    slice-aggregate-put-start
-    put-start-requires
-    put-kn-requires
-    put-byte-requires
-    same-length
+    (search needs)
+    (search needs)
+    (search needs)
+    (search needs)
+    (search needs)
     returns-2)

@@ -11,16 +11,10 @@ returns c = sign-none _ (c .before .before .pre .0) (sign-above _ (c .if1 .taken
 returns-2 : tie.Need-returns-2
 returns-2 c = sign-none _ (c .before .before .before .pre .0) (sign-zero _ (c .before .if1 .left) (omega arith))
 
-put-byte-requires : tie.Need-put-byte-requires
-put-byte-requires c κs = search needs
-
-same-length : tie.Need-same-length
-same-length c = search needs
-
 returns-3 : tie.Need-returns-3
 returns-3 c =
     sign-put (sign-minus _ (c .before .before .before .before .before .if1 .left) (omega arith))
     (c .before .before .put-byte .ensures)
 
 pub put-sign-spec : {M : Type 1} → statement M
-put-sign-spec = tie.close (tie.spec returns returns-2 put-byte-requires same-length returns-3)
+put-sign-spec = tie.close (tie.spec returns returns-2 (search needs) (search needs) returns-3)

@@ -4,12 +4,6 @@ use borrow.Author.Needs.{needs}
 use Rattle.decisions.proofs.effect.copies.Statement.{statement}
 use Rattle.decisions.proofs.effect.copies.Tie as tie
 
-closes-requires : tie.Need-closes-requires
-closes-requires c κs = search needs
-
-remaining-requires : tie.Need-remaining-requires
-remaining-requires c κs = search needs
-
 returns : tie.Need-returns
 returns c = simp (sym (c .before .before .closes .ensures) ∙ c .before .if1 .taken, c .remaining .ensures)
 
@@ -17,4 +11,4 @@ returns-2 : tie.Need-returns-2
 returns-2 c = simp (sym (c .before .closes .ensures) ∙ c .if1 .left)
 
 pub copies-spec : {M : Type 1} → statement M
-copies-spec = tie.close (tie.spec closes-requires remaining-requires returns returns-2)
+copies-spec = tie.close (tie.spec (λ c κs. search needs) (λ c κs. search needs) returns returns-2)

@@ -9,16 +9,10 @@ use Rattle.layout.specs.Standing.{slots}
 use Rattle.decisions.proofs.effect.few_when_full.Statement.{statement}
 use Rattle.decisions.proofs.effect.few_when_full.Tie as tie
 
-taken-up-requires : tie.Need-taken-up-requires
-taken-up-requires c κs = search needs
-
-count-requires : tie.Need-count-requires
-count-requires c κs = search needs
-
 returns : tie.Need-returns
 returns c =
     ap (λ (x : ℕ). ltb x (c .before .before .before .args .h .settings .useful))
     (c .before .count .ensures ∙ ap (λ (x : Standing). length (slots x)) (c .before .before .taken-up .ensures))
 
 pub few-when-full-spec : {M : Type 1} → statement M
-few-when-full-spec = tie.close (tie.spec taken-up-requires count-requires returns)
+few-when-full-spec = tie.close (tie.spec (λ c κs. search needs) (λ c κs. search needs) returns)

@@ -7,9 +7,6 @@ use Rattle.decisions.specs.EffectLaws.{copies-few}
 use Rattle.decisions.proofs.effect.incoming.Statement.{statement}
 use Rattle.decisions.proofs.effect.incoming.Tie as tie
 
-copies-requires : tie.Need-copies-requires
-copies-requires c κs = search needs
-
 add-result : tie.Need-add-result
 add-result c =
     let entry = c .before .before in
@@ -21,4 +18,4 @@ returns : tie.Need-returns
 returns c = search needs
 
 pub incoming-spec : {M : Type 1} → statement M
-incoming-spec = tie.close (tie.spec copies-requires add-result returns)
+incoming-spec = tie.close (tie.spec (λ c κs. search needs) add-result returns)

@@ -12,11 +12,8 @@ returns c = simp (le-ltb 0 (c .before .args .incoming) (omega arith))
 returns-2 : tie.Need-returns-2
 returns-2 c = simp (lt-ltb 0 (c .before .before .before .args .incoming) (omega arith), eq-eqb _ _ (c .if2 .taken))
 
-sub-result : tie.Need-sub-result
-sub-result c = search needs
-
 returns-3 : tie.Need-returns-3
 returns-3 c = opens-some _ _ (c .before .before .before .before .pre) (c .before .before .before .if1 .left) (c .before .if2 .left)
 
 pub opens-spec : {M : Type 1} → statement M
-opens-spec = tie.close (tie.spec returns returns-2 sub-result returns-3)
+opens-spec = tie.close (tie.spec returns returns-2 (λ c. search needs) returns-3)

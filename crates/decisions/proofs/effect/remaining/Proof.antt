@@ -6,20 +6,12 @@ use Rattle.decisions.specs.EffectLaws.{remaining-of}
 use Rattle.decisions.proofs.effect.remaining.Statement.{statement}
 use Rattle.decisions.proofs.effect.remaining.Tie as tie
 
-standing-requires : tie.Need-standing-requires
-standing-requires c κs = search needs
-
-count-requires : tie.Need-count-requires
-count-requires c κs = search needs
-
 returns : tie.Need-returns
 returns c = sym (remaining-of (c .before .before .standing .ensures) (c .before .count .ensures) ∙ ap (λ (x : ℕ). x - 1) (c .if1 .taken))
-
-sub-result : tie.Need-sub-result
-sub-result c = search needs
 
 returns-2 : tie.Need-returns-2
 returns-2 c = sym (remaining-of (c .before .before .standing .ensures) (c .before .count .ensures))
 
 pub remaining-spec : {M : Type 1} → statement M
-remaining-spec = tie.close (tie.spec standing-requires count-requires returns sub-result returns-2)
+remaining-spec =
+    tie.close (tie.spec (λ c κs. search needs) (λ c κs. search needs) returns (λ c. search needs) returns-2)

@@ -18,15 +18,6 @@ abbrev μ-loop : tie.MeasureT-loop
 loop-holds : tie.Need-loop-holds Inv-loop μ-loop
 loop-holds c = refl
 
-with-requires : tie.Need-with-requires Inv-loop μ-loop
-with-requires c κs = search needs
-
-add-k : tie.Need-add-k Inv-loop μ-loop
-add-k c = search needs
-
-loop-less : tie.Need-loop-less Inv-loop μ-loop
-loop-less c = search needs
-
 loop-again : tie.Need-loop-again Inv-loop μ-loop
 loop-again c =
     let k = c .before .before .loop .k in
@@ -38,4 +29,6 @@ returns : tie.Need-returns Inv-loop μ-loop
 returns c = sym (taken-none (c .before .loop .taken) (c .before .loop .k) (c .before .before .args .to) (omega arith)) ∙ c .before .loop .inv
 
 pub taken-up-spec : {M : Type 1} → statement M
-taken-up-spec = tie.close (tie.spec Inv-loop μ-loop loop-holds with-requires add-k loop-less loop-again returns)
+taken-up-spec =
+    tie.close (tie.spec Inv-loop μ-loop loop-holds (λ c κs. search needs) (λ c. search needs) (λ c. search needs)
+    loop-again returns)

@@ -7,9 +7,6 @@ use Rattle.decisions.specs.TestLaws.{hit, miss, zero-is, zero-not}
 use Rattle.decisions.proofs.own.clear_refusal.Statement.{statement}
 use Rattle.decisions.proofs.own.clear_refusal.Tie as tie
 
-beyond-tags-requires : tie.Need-beyond-tags-requires
-beyond-tags-requires c κs = search needs
-
 returns : tie.Need-returns
 returns c = hit (sym (c .before .beyond-tags .ensures) ∙ c .if1 .taken)
 
@@ -32,4 +29,5 @@ returns-3 c =
     (miss (zero-not (c .before .before .read .ensures .value) (c .before .if2 .left)) (c .ending-refusal .ensures))
 
 pub clear-refusal-spec : {M : Type 1} → statement M
-clear-refusal-spec = tie.close (tie.spec beyond-tags-requires returns read-requires returns-2 ending-refusal-requires returns-3)
+clear-refusal-spec =
+    tie.close (tie.spec (λ c κs. search needs) returns read-requires returns-2 ending-refusal-requires returns-3)

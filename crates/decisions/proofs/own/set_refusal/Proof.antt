@@ -8,9 +8,6 @@ use Rattle.decisions.specs.TestLaws.{hit, miss, none, zero-is, zero-not}
 use Rattle.decisions.proofs.own.set_refusal.Statement.{statement}
 use Rattle.decisions.proofs.own.set_refusal.Tie as tie
 
-beyond-tags-requires : tie.Need-beyond-tags-requires
-beyond-tags-requires c κs = search needs
-
 returns : tie.Need-returns
 returns c = hit (sym (c .before .beyond-tags .ensures) ∙ c .if1 .taken)
 
@@ -22,9 +19,6 @@ returns-2 c =
     miss (sym (c .before .before .before .beyond-tags .ensures) ∙ c .before .before .if1 .left)
     (hit (ap not (zero-not (c .before .read .ensures .value) (c .if2 .taken))))
 
-opens-requires : tie.Need-opens-requires
-opens-requires c κs = search needs
-
 returns-3 : tie.Need-returns-3
 returns-3 c =
     let opened = c .before in
@@ -35,9 +29,6 @@ returns-3 c =
     (miss (ap not (zero-is (read .read .ensures .value) (opened .before .if2 .left)))
     (miss (set-rests _ _ rests) (miss (out-rests _ 1 rests) none)))
 
-unsound-for-set-requires : tie.Need-unsound-for-set-requires
-unsound-for-set-requires c κs = search needs
-
 returns-4 : tie.Need-returns-4
 returns-4 c =
     let opened = c .before .before .before in
@@ -47,9 +38,6 @@ returns-4 c =
     (miss (ap not (zero-is (read .read .ensures .value) (opened .before .if2 .left)))
     (hit (set-opens _ _ (sym (opened .opens .ensures) ∙ not-false _ (c .before .before .if3 .left))
     (sym (c .before .unsound-for-set .ensures) ∙ c .if4 .taken))))
-
-opening-refusal-requires : tie.Need-opening-refusal-requires
-opening-refusal-requires c κs = search needs
 
 returns-5 : tie.Need-returns-5
 returns-5 c =
@@ -64,5 +52,5 @@ returns-5 c =
 
 pub set-refusal-spec : {M : Type 1} → statement M
 set-refusal-spec =
-    tie.close (tie.spec beyond-tags-requires returns read-requires returns-2 opens-requires returns-3 unsound-for-set-requires returns-4
-    opening-refusal-requires returns-5)
+    tie.close (tie.spec (λ c κs. search needs) returns read-requires returns-2 (λ c κs. search needs) returns-3
+    (λ c κs. search needs) returns-4 (λ c κs. search needs) returns-5)

@@ -6,14 +6,8 @@ use Rattle.decisions.specs.SoundLaws.{bad-acceptor}
 use Rattle.decisions.proofs.sound.acceptor_is_bad.Statement.{statement}
 use Rattle.decisions.proofs.sound.acceptor_is_bad.Tie as tie
 
-few-when-full-requires : tie.Need-few-when-full-requires
-few-when-full-requires c κs = search needs
-
 returns : tie.Need-returns
 returns c = sym (bad-acceptor _ _ _ (c .before .before .before .pre .1) (sym (c .before .few-when-full .ensures) ∙ not-true _ (c .if1 .taken)))
-
-block-is-bad-requires : tie.Need-block-is-bad-requires
-block-is-bad-requires c κs = search needs
 
 returns-2 : tie.Need-returns-2
 returns-2 c =
@@ -21,4 +15,4 @@ returns-2 c =
     ∙ sym (bad-acceptor _ _ _ (c .before .before .before .before .pre .1) (sym (c .before .before .few-when-full .ensures) ∙ not-false _ (c .before .if1 .left)))
 
 pub acceptor-is-bad-spec : {M : Type 1} → statement M
-acceptor-is-bad-spec = tie.close (tie.spec few-when-full-requires returns block-is-bad-requires returns-2)
+acceptor-is-bad-spec = tie.close (tie.spec (λ c κs. search needs) returns (λ c κs. search needs) returns-2)

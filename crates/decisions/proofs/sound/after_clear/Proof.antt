@@ -8,15 +8,6 @@ use Rattle.decisions.specs.SoundLaws.{after-here, after-there}
 use Rattle.decisions.proofs.sound.after_clear.Statement.{statement}
 use Rattle.decisions.proofs.sound.after_clear.Tie as tie
 
-standing-requires : tie.Need-standing-requires
-standing-requires c κs = search needs
-
-block-of-requires : tie.Need-block-of-requires
-block-of-requires c κs = search needs
-
-slot-of-requires : tie.Need-slot-of-requires
-slot-of-requires c κs = search needs
-
 without-requires : tie.Need-without-requires
 without-requires c κs =
     let entry = c .before .before .before .before .before .before in
@@ -37,4 +28,6 @@ returns-2 c =
     (c .before .before .block-of .ensures) refl (c .before .before .before .standing .ensures) (c .if1 .left)
 
 pub after-clear-spec : {M : Type 1} → statement M
-after-clear-spec = tie.close (tie.spec standing-requires block-of-requires slot-of-requires without-requires returns returns-2)
+after-clear-spec =
+    tie.close (tie.spec (λ c κs. search needs) (λ c κs. search needs) (λ c κs. search needs) without-requires returns
+    returns-2)

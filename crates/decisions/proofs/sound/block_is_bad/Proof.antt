@@ -5,17 +5,11 @@ use Rattle.decisions.specs.SoundLaws.{bad-block}
 use Rattle.decisions.proofs.sound.block_is_bad.Statement.{statement}
 use Rattle.decisions.proofs.sound.block_is_bad.Tie as tie
 
-links-are-bad-requires : tie.Need-links-are-bad-requires
-links-are-bad-requires c κs = search needs
-
 returns : tie.Need-returns
 returns c = sym (bad-block _ _ _ (sym (c .before .links-are-bad .ensures) ∙ c .if1 .taken) refl)
-
-slots-are-bad-requires : tie.Need-slots-are-bad-requires
-slots-are-bad-requires c κs = search needs
 
 returns-2 : tie.Need-returns-2
 returns-2 c = sym (bad-block _ _ _ (sym (c .before .before .links-are-bad .ensures) ∙ c .before .if1 .left) (sym (c .slots-are-bad .ensures)))
 
 pub block-is-bad-spec : {M : Type 1} → statement M
-block-is-bad-spec = tie.close (tie.spec links-are-bad-requires returns slots-are-bad-requires returns-2)
+block-is-bad-spec = tie.close (tie.spec (λ c κs. search needs) returns (λ c κs. search needs) returns-2)

@@ -5,17 +5,11 @@ use borrow.Author.Needs.{needs}
 use Rattle.decisions.proofs.sound.closing_is_bad.Statement.{statement}
 use Rattle.decisions.proofs.sound.closing_is_bad.Tie as tie
 
-closes-requires : tie.Need-closes-requires
-closes-requires c κs = search needs
-
 returns : tie.Need-returns
 returns c = simp (sym (c .before .closes .ensures) ∙ not-true _ (c .if1 .taken))
-
-block-is-bad-requires : tie.Need-block-is-bad-requires
-block-is-bad-requires c κs = search needs
 
 returns-2 : tie.Need-returns-2
 returns-2 c = simp (sym (c .before .before .closes .ensures) ∙ not-false _ (c .before .if1 .left), c .block-is-bad .ensures)
 
 pub closing-is-bad-spec : {M : Type 1} → statement M
-closing-is-bad-spec = tie.close (tie.spec closes-requires returns block-is-bad-requires returns-2)
+closing-is-bad-spec = tie.close (tie.spec (λ c κs. search needs) returns (λ c κs. search needs) returns-2)

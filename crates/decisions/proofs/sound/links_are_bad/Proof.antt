@@ -6,9 +6,6 @@ use Rattle.decisions.specs.SoundLaws.{bad-links, not-leb}
 use Rattle.decisions.proofs.sound.links_are_bad.Statement.{statement}
 use Rattle.decisions.proofs.sound.links_are_bad.Tie as tie
 
-read-requires : tie.Need-read-requires
-read-requires c κs = search needs
-
 returns : tie.Need-returns
 returns c = sym (bad-links _ _ _ (c .before .read .ensures .value) refl (le-leb _ _ (c .if1 .taken)) refl refl refl)
 
@@ -16,9 +13,6 @@ returns-2 : tie.Need-returns-2
 returns-2 c =
     sym (bad-links _ _ _ (c .before .before .before .read .ensures .value) refl (lt-leb _ _ (c .before .before .if1 .left))
     (eq-eqb _ _ (c .if2 .taken)) refl refl)
-
-read-requires-2 : tie.Need-read-requires-2
-read-requires-2 c κs = search needs
 
 returns-3 : tie.Need-returns-3
 returns-3 c =
@@ -32,4 +26,5 @@ returns-4 c = not-leb (c .before .before .read2 .result) (c .before .before .bef
     (lt-ltb _ _ (c .before .if3 .left)) refl)
 
 pub links-are-bad-spec : {M : Type 1} → statement M
-links-are-bad-spec = tie.close (tie.spec read-requires returns returns-2 read-requires-2 returns-3 returns-4)
+links-are-bad-spec =
+    tie.close (tie.spec (λ c κs. search needs) returns returns-2 (λ c κs. search needs) returns-3 returns-4)

@@ -3,31 +3,27 @@ use mathlib.Core.Path.{refl, sym}
 use native.Mathlib.Omega.{arith}
 use borrow.Author.Tests.{lt-ltb, le-ltb, eq-eqb, ne-eqb}
 use borrow.Author.Needs.{needs}
-use Rattle.decisions.specs.EffectLaws.{in-place, numbered-at, slot-at}
+use Rattle.layout.specs.Spot.{Lies, place-lies}
+use Rattle.decisions.specs.EffectLaws.{numbered-at, slot-at}
 use Rattle.decisions.specs.SoundLaws.{bad-place}
 use Rattle.decisions.proofs.sound.place_is_bad.Statement.{statement}
 use Rattle.decisions.proofs.sound.place_is_bad.Tie as tie
 
-placed-requires : tie.Need-placed-requires
-placed-requires c κs = search needs
+-- a place that is not above the records placed
+lies : (c : tie.Else1) → Lies (c .before .before .before .args .h) (c .before .before .before .args .p)
+lies c =
+    let entry = c .before .before .before in
+    place-lies _ _ (entry .pre .0 .head .sound) (entry .pre .1 .some) (rw (← (c .before .placed .ensures)) (c .if1 .left))
 
 returns : tie.Need-returns
 returns c =
     sym (bad-place _ _ _ (c .before .before .before .pre .1 .is) refl refl (c .before .placed .ensures) refl refl (lt-ltb _ _ (c .if1 .taken)) refl
     refl)
 
-block-of-requires : tie.Need-block-of-requires
-block-of-requires c κs = search needs
-
-slot-of-requires : tie.Need-slot-of-requires
-slot-of-requires c κs = search needs
-
 read-requires : tie.Need-read-requires
 read-requires c κs =
-    let entry = c .before .before .before .before .before in
-    let i = in-place (entry .args .h) (entry .args .p) (entry .pre .0 .head .sound) (entry .pre .1 .some)
-    (rw (← (c .before .before .before .placed .ensures)) (c .before .before .if1 .left)) in
-    ((numbered-at i (c .before .block-of .ensures), slot-at i (c .slot-of .ensures), omega arith), entry .pre .0 .held)
+    let i = lies (c .before .before) in
+    ((numbered-at i (c .before .block-of .ensures), slot-at i (c .slot-of .ensures), omega arith), c .before .before .before .before .before .pre .0 .held)
 
 returns-2 : tie.Need-returns-2
 returns-2 c =
@@ -36,18 +32,10 @@ returns-2 c =
     (le-ltb _ _ (c .before .before .before .before .if1 .left)) (ne-eqb _ _ (c .if2 .taken)) refl)
 
 standing-requires : tie.Need-standing-requires
-standing-requires c κs =
-    let entry = c .before .before .before .before .before .before .before in
-    let i = in-place (entry .args .h) (entry .args .p) (entry .pre .0 .head .sound) (entry .pre .1 .some)
-    (rw (← (c .before .before .before .before .before .placed .ensures)) (c .before .before .before .before .if1 .left)) in
-    (numbered-at i (c .before .before .before .block-of .ensures), entry .pre .0 .held)
+standing-requires c κs = (numbered-at (lies (c .before .before .before .before)) (c .before .before .before .block-of .ensures), c .before .before .before .before .before .before .before .pre .0 .held)
 
 has-requires : tie.Need-has-requires
-has-requires c κs =
-    let entry = c .before .before .before .before .before .before .before .before in
-    let i = in-place (entry .args .h) (entry .args .p) (entry .pre .0 .head .sound) (entry .pre .1 .some)
-    (rw (← (c .before .before .before .before .before .before .placed .ensures)) (c .before .before .before .before .before .if1 .left)) in
-    omega (arith, slot-at i (c .before .before .before .slot-of .ensures), entry .pre .0 .head .sound .within .most)
+has-requires c κs = omega (arith, slot-at (lies (c .before .before .before .before .before)) (c .before .before .before .slot-of .ensures), c .before .before .before .before .before .before .before .before .pre .0 .head .sound .within .most)
 
 returns-3 : tie.Need-returns-3
 returns-3 c =
@@ -59,4 +47,5 @@ returns-3 c =
 
 pub place-is-bad-spec : {M : Type 1} → statement M
 place-is-bad-spec =
-    tie.close (tie.spec placed-requires returns block-of-requires slot-of-requires read-requires returns-2 standing-requires has-requires returns-3)
+    tie.close (tie.spec (λ c κs. search needs) returns (λ c κs. search needs) (λ c κs. search needs) read-requires
+    returns-2 standing-requires has-requires returns-3)

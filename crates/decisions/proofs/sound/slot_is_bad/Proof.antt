@@ -9,12 +9,9 @@ returns : tie.Need-returns
 unfolding badSlot
 returns c = simp (le-leb _ _ (c .if1 .taken))
 
-read-requires : tie.Need-read-requires
-read-requires c κs = search needs
-
 returns-2 : tie.Need-returns-2
 unfolding badSlot
 returns-2 c = simp (lt-leb _ _ (c .before .before .if1 .left), c .before .read .ensures .value)
 
 pub slot-is-bad-spec : {M : Type 1} → statement M
-slot-is-bad-spec = tie.close (tie.spec returns read-requires returns-2)
+slot-is-bad-spec = tie.close (tie.spec returns (λ c κs. search needs) returns-2)

@@ -9,14 +9,8 @@ returns : tie.Need-returns
 unfolding badAcceptor
 returns c = simp (eq-eqb _ _ (c .if1 .taken))
 
-standing-requires : tie.Need-standing-requires
-standing-requires c κs = search needs
-
-acceptor-is-bad-requires : tie.Need-acceptor-is-bad-requires
-acceptor-is-bad-requires c κs = search needs
-
 returns-2 : tie.Need-returns-2
 returns-2 c = simp (c .acceptor-is-bad .ensures, c .before .standing .ensures)
 
 pub unsound-for-set-spec : {M : Type 1} → statement M
-unsound-for-set-spec = tie.close (tie.spec returns standing-requires acceptor-is-bad-requires returns-2)
+unsound-for-set-spec = tie.close (tie.spec returns (λ c κs. search needs) (λ c κs. search needs) returns-2)

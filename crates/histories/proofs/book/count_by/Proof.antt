@@ -1,5 +1,4 @@
--- `histories::book::count_by` is safe and ends: nothing has to hold from turn to turn, and the loop counts up to its end.
--- Assumes nothing.
+-- `histories::book::count_by` is safe and ends: the loop counts up to its end. Assumes nothing.
 use Prim.Native.Nat.{_-_}
 use borrow.Author.Needs.{needs}
 use Rattle.histories.proofs.book.count_by.Statement.{statement}
@@ -10,7 +9,7 @@ count-by-spec =
     tie.close
     (tie.spec
     (λ _ _ _ _ _ _ _ _. Unit {0})
-    (λ _ _ _ last _ _ _ i. last - i)
+    (λ _ _ _ end _ _ _ n. end - n)
     (search needs)
     (search needs)
     (search needs)

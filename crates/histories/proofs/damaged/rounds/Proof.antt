@@ -1,5 +1,4 @@
--- `histories::damaged::rounds` is safe and ends: nothing has to hold from turn to turn, and the loop counts up to its end.
--- Assumes nothing.
+-- `histories::damaged::rounds` is safe and ends: the loop counts up to its end. Assumes nothing.
 use Prim.Native.Nat.{_-_}
 use borrow.Author.Needs.{needs}
 use Rattle.histories.proofs.damaged.rounds.Statement.{statement}
@@ -9,9 +8,8 @@ pub rounds-spec : {M : Type 1} → statement M
 rounds-spec =
     tie.close
     (tie.spec
-    (λ _ _ _ _ _ _ _. Unit {0})
-    (λ _ _ _ _ _ _ i. 33 - i)
-    (search needs)
+    (λ _ _ _ _ _. Unit {0})
+    (λ _ _ _ _ i. 33 - i)
     (search needs)
     (search needs)
     (search needs)

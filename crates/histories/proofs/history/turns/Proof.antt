@@ -1,5 +1,4 @@
--- `histories::history::turns` is safe and ends: nothing has to hold from turn to turn, and the loop counts up to its end.
--- Assumes nothing.
+-- `histories::history::turns` is safe and ends: the loop counts up to its end. Assumes nothing.
 use Prim.Native.Nat.{_-_}
 use borrow.Author.Needs.{needs}
 use Rattle.histories.proofs.history.turns.Statement.{statement}
@@ -9,8 +8,8 @@ pub turns-spec : {M : Type 1} → statement M
 turns-spec =
     tie.close
     (tie.spec
-    (λ _ _ _ _ _ _ _. Unit {0})
-    (λ _ _ calls _ _ _ i. calls - i)
+    (λ _ _ _ _ _. Unit {0})
+    (λ _ calls _ _ i. calls - i)
     (search needs)
     (search needs)
     (search needs)

@@ -1,5 +1,4 @@
--- `histories::log::state_at` is safe and ends: nothing has to hold from turn to turn, and the loop counts up to its end.
--- Assumes nothing.
+-- `histories::log::state_at` is safe and ends: the loop counts up to its end. Assumes nothing.
 use Prim.Native.Nat.{_-_}
 use borrow.Author.Needs.{needs}
 use Rattle.histories.proofs.log.state_at.Statement.{statement}
@@ -9,9 +8,8 @@ pub state-at-spec : {M : Type 1} → statement M
 state-at-spec =
     tie.close
     (tie.spec
-    (λ _ _ _ _ _ _ _. Unit {0})
-    (λ _ _ _ last _ _ i. last - i)
-    (search needs)
+    (λ _ _ _ _ _ _ _ _. Unit {0})
+    (λ _ _ _ end _ _ _ i. end - i)
     (search needs)
     (search needs)
     (search needs)

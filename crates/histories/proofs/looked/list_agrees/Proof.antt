@@ -1,5 +1,4 @@
--- `histories::looked::list_agrees` is safe and ends: nothing has to hold from turn to turn, and the loop counts up to its end.
--- Assumes nothing.
+-- `histories::looked::list_agrees` is safe and ends: the loop counts up to its end. Assumes nothing.
 use Prim.Native.Nat.{_-_}
 use borrow.Author.Needs.{needs}
 use Rattle.histories.proofs.looked.list_agrees.Statement.{statement}
@@ -9,10 +8,8 @@ pub list-agrees-spec : {M : Type 1} → statement M
 list-agrees-spec =
     tie.close
     (tie.spec
-    (λ _ _ _ _ _. Unit {0})
-    (λ _ count _ _ i. count - i)
-    (search needs)
-    (search needs)
+    (λ _ _ _ _. Unit {0})
+    (λ _ count _ i. count - i)
     (search needs)
     (search needs)
     (search needs)

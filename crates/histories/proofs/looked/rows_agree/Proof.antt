@@ -1,5 +1,4 @@
--- `histories::looked::rows_agree` is safe and ends: nothing has to hold from turn to turn, and the loop counts up to its end.
--- Assumes nothing.
+-- `histories::looked::rows_agree` is safe and ends: the loop counts up to its end. Assumes nothing.
 use Prim.Native.Nat.{_-_}
 use borrow.Author.Needs.{needs}
 use Rattle.histories.proofs.looked.rows_agree.Statement.{statement}
@@ -9,14 +8,8 @@ pub rows-agree-spec : {M : Type 1} → statement M
 rows-agree-spec =
     tie.close
     (tie.spec
-    (λ _ _ _ _ _ _. Unit {0})
-    (λ _ _ count _ _ i. count - i)
-    (search needs)
-    (search needs)
-    (search needs)
-    (search needs)
-    (search needs)
-    (search needs)
+    (λ _ _ _ _ _ _ _. Unit {0})
+    (λ _ _ tags _ _ _ tag. tags - tag)
     (search needs)
     (search needs)
     (search needs)

@@ -5,9 +5,6 @@ use Rattle.layout.specs.OffsetLaws.{in-store, ran-read}
 use Rattle.layout.proofs.address.read.Statement.{statement}
 use Rattle.layout.proofs.address.read.Tie as tie
 
-offset-of-requires : tie.Need-offset-of-requires
-offset-of-requires c κs = search needs
-
 mul-result : tie.Need-mul-result
 mul-result c = omega arith
 
@@ -18,4 +15,4 @@ returns : tie.Need-returns
 returns c = ran-read (c .before .before .before .pre .1) (c .before .offset-of .ensures)
 
 pub read-spec : {M : Type 1} → statement M
-read-spec = tie.close (tie.spec offset-of-requires mul-result shared-slice-read-result returns)
+read-spec = tie.close (tie.spec (λ c κs. search needs) mul-result shared-slice-read-result returns)

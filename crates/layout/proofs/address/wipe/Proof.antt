@@ -4,22 +4,11 @@ use Rattle.layout.specs.OffsetLaws.{block-in-store, ran-wipe}
 use Rattle.layout.proofs.address.wipe.Statement.{statement}
 use Rattle.layout.proofs.address.wipe.Tie as tie
 
-block-start-requires : tie.Need-block-start-requires
-block-start-requires c κs = search needs
-
-block-words-requires : tie.Need-block-words-requires
-block-words-requires c κs = search needs
-
 zero-part-requires : tie.Need-zero-part-requires
 zero-part-requires c κs = block-in-store (c .before .before .before .before .pre .1) (c .before .before .block-start .ensures) (c .block-words .ensures)
-
-same-length : tie.Need-same-length
-same-length c = search needs
 
 returns : tie.Need-returns
 returns c = ran-wipe (c .before .before .before .before .before .before .before .pre .1) (c .before .before .before .before .before .block-start .ensures) (c .before .before .before .block-words .ensures) (c .before .before .zero-part .ensures)
 
 pub wipe-spec : {M : Type 1} → statement M
-wipe-spec =
-    tie.close
-    (tie.spec block-start-requires block-words-requires zero-part-requires same-length returns)
+wipe-spec = tie.close (tie.spec (search needs) (search needs) zero-part-requires (search needs) returns)

@@ -5,21 +5,14 @@ use Rattle.layout.specs.OffsetLaws.{in-store, ran-write}
 use Rattle.layout.proofs.address.write.Statement.{statement}
 use Rattle.layout.proofs.address.write.Tie as tie
 
-offset-of-requires : tie.Need-offset-of-requires
-offset-of-requires c κs = search needs
-
 mul-store : tie.Need-mul-store
 mul-store c = omega arith
 
 slice-write-store : tie.Need-slice-write-store
 slice-write-store c = in-store (c .before .before .pre .1) (c .offset-of .ensures)
 
-same-length : tie.Need-same-length
-same-length c = search needs
-
 returns : tie.Need-returns
 returns c = ran-write (c .before .before .pre .1) _ (c .offset-of .ensures)
 
 pub write-spec : {M : Type 1} → statement M
-write-spec =
-    tie.close (tie.spec offset-of-requires mul-store slice-write-store same-length returns)
+write-spec = tie.close (tie.spec (λ c κs. search needs) mul-store slice-write-store (λ c. search needs) returns)

@@ -6,17 +6,8 @@ use Rattle.layout.specs.HeadLaws.{bad-head}
 use Rattle.layout.proofs.head.bad_head.Statement.{statement}
 use Rattle.layout.proofs.head.bad_head.Tie as tie
 
-shared-slice-read-if1 : tie.Need-shared-slice-read-if1
-shared-slice-read-if1 c = search needs
-
 returns : tie.Need-returns
 returns c = sym (bad-head _ refl (ne-eqb _ _ (c .if1 .taken)) refl refl refl refl refl)
-
-head-of-requires : tie.Need-head-of-requires
-head-of-requires c κs = search needs
-
-within-requires : tie.Need-within-requires
-within-requires c κs = search needs
 
 returns-2 : tie.Need-returns-2
 returns-2 c = sym (bad-head _ (c .before .before .head-of .ensures) (eq-eqb _ _ (c .before .before .before .if1 .left)) (sym (c .before .within .ensures) ∙ not-true _ (c .if2 .taken)) refl refl refl refl)
@@ -31,17 +22,11 @@ returns-4 c =
     let w = sym (c .before .before .before .before .before .within .ensures) ∙ not-false _ (c .before .before .before .before .if2 .left) in
     sym (bad-head _ (c .before .before .before .before .before .before .head-of .ensures) (eq-eqb _ _ (c .before .before .before .before .before .before .before .if1 .left)) w (le-ltb _ _ (c .before .before .if3 .left)) (eq-eqb _ _ (c .if4 .taken)) refl refl)
 
-spare-zero-requires : tie.Need-spare-zero-requires
-spare-zero-requires c κs = search needs
-
 returns-5 : tie.Need-returns-5
 returns-5 c =
     let w = sym (c .before .before .before .before .before .before .before .within .ensures) ∙ not-false _ (c .before .before .before .before .before .before .if2 .left) in
     let s = sym (c .before .spare-zero .ensures) ∙ not-true _ (c .if5 .taken) in
     sym (bad-head _ (c .before .before .before .before .before .before .before .before .head-of .ensures) (eq-eqb _ _ (c .before .before .before .before .before .before .before .before .before .if1 .left)) w (le-ltb _ _ (c .before .before .before .before .if3 .left)) (ne-eqb _ _ (c .before .before .if4 .left)) s refl)
-
-fill-fits-requires : tie.Need-fill-fits-requires
-fill-fits-requires c κs = search needs
 
 returns-6 : tie.Need-returns-6
 returns-6 c =
@@ -51,16 +36,5 @@ returns-6 c =
 
 pub bad-head-spec : {M : Type 1} → statement M
 bad-head-spec =
-    tie.close
-    (tie.spec
-    shared-slice-read-if1
-    returns
-    head-of-requires
-    within-requires
-    returns-2
-    returns-3
-    returns-4
-    spare-zero-requires
-    returns-5
-    fill-fits-requires
-    returns-6)
+    tie.close (tie.spec (search needs) returns (search needs) (search needs) returns-2 returns-3 returns-4
+    (search needs) returns-5 (search needs) returns-6)

@@ -5,17 +5,11 @@ use Rattle.layout.specs.PartsLaws.{cleared-is}
 use Rattle.layout.proofs.head.clear_layout.Statement.{statement}
 use Rattle.layout.proofs.head.clear_layout.Tie as tie
 
-words-requires : tie.Need-words-requires
-words-requires c κs = search needs
-
 zero-part-requires : tie.Need-zero-part-requires
 zero-part-requires c κs = search needs
-
-same-length : tie.Need-same-length
-same-length c = search needs
 
 returns : tie.Need-returns
 returns c = c .before .before .zero-part .ensures ∙ cleared-is (c .before .before .before .before .before .before .args .s) (c .before .before .before .before .before .before .args .store .now) (c .before .before .before .before .before .before .pre .1) (c .before .before .before .words .ensures .is)
 
 pub clear-layout-spec : {M : Type 1} → statement M
-clear-layout-spec = tie.close (tie.spec words-requires zero-part-requires same-length returns)
+clear-layout-spec = tie.close (tie.spec (search needs) zero-part-requires (search needs) returns)

@@ -1,22 +1,21 @@
 -- `head::read_head` meets its contract: the refusal, or the head.
-use mathlib.Core.Path.{ap, _∙_}
+use mathlib.Core.Path.{sym, ap, _∙_}
 use borrow.Author.Needs.{needs}
 use Rattle.layout.specs.declared.head.HeadAnswer.the-variants.{Read}
-use Rattle.layout.specs.HeadLaws.{answer-refused, answer-read}
+use Rattle.layout.specs.HeadLaws.{answer-refused, head-passes, passes-read}
 use Rattle.layout.proofs.head.read_head.Statement.{statement}
 use Rattle.layout.proofs.head.read_head.Tie as tie
-
-head-refusal-requires : tie.Need-head-refusal-requires
-head-refusal-requires c κs = search needs
 
 returns : tie.Need-returns
 returns c = answer-refused _ (c .before .head-refusal .ensures) (c .if1 .taken)
 
 head-of-requires : tie.Need-head-of-requires
-head-of-requires c κs = answer-read (c .before .before .before .args .store .now) (c .before .head-refusal .ensures) (c .if1 .left) .0
+head-of-requires c κs = head-passes _ (sym (c .before .head-refusal .ensures) ∙ c .if1 .left) .0
 
 returns-2 : tie.Need-returns-2
-returns-2 c = ap Read (c .head-of .ensures) ∙ answer-read _ (c .before .before .head-refusal .ensures) (c .before .if1 .left) .1
+returns-2 c =
+    let p = head-passes _ (sym (c .before .before .head-refusal .ensures) ∙ c .before .if1 .left) in
+    ap Read (c .head-of .ensures) ∙ sym (passes-read _ (p .0) (p .1))
 
 pub read-head-spec : {M : Type 1} → statement M
-read-head-spec = tie.close (tie.spec head-refusal-requires returns head-of-requires returns-2)
+read-head-spec = tie.close (tie.spec (search needs) returns head-of-requires returns-2)

@@ -5,12 +5,6 @@ use Rattle.layout.specs.PartsLaws.{as-block}
 use Rattle.layout.proofs.parts.block.Statement.{statement}
 use Rattle.layout.proofs.parts.block.Tie as tie
 
-block-start-requires : tie.Need-block-start-requires
-block-start-requires c κs = search needs
-
-block-words-requires : tie.Need-block-words-requires
-block-words-requires c κs = search needs
-
 part-requires : tie.Need-part-requires
 part-requires c κs = block-in-store (c .before .before .before .pre .1) (c .before .block-start .ensures) (c .block-words .ensures)
 
@@ -18,4 +12,4 @@ returns : tie.Need-returns
 returns c = as-block (c .before .before .block-start .ensures .is) (c .before .block-words .ensures .is) (c .part .ensures)
 
 pub block-spec : {M : Type 1} → statement M
-block-spec = tie.close (tie.spec block-start-requires block-words-requires part-requires returns)
+block-spec = tie.close (tie.spec (search needs) (search needs) part-requires returns)

@@ -5,15 +5,9 @@ use Rattle.layout.specs.Parts.{blockWord}
 use Rattle.layout.proofs.parts.block_word.Statement.{statement}
 use Rattle.layout.proofs.parts.block_word.Tie as tie
 
-mul-result : tie.Need-mul-result
-mul-result c = search needs
-
-shared-slice-read-result : tie.Need-shared-slice-read-result
-shared-slice-read-result c = search needs
-
 returns : tie.Need-returns
 unfolding blockWord
 returns c = refl
 
 pub block-word-spec : {M : Type 1} → statement M
-block-word-spec = tie.close (tie.spec mul-result shared-slice-read-result returns)
+block-word-spec = tie.close (tie.spec (search needs) (search needs) returns)

@@ -5,12 +5,6 @@ use Rattle.layout.specs.PartsLaws.{as-level, level-room}
 use Rattle.layout.proofs.parts.level.Statement.{statement}
 use Rattle.layout.proofs.parts.level.Tie as tie
 
-level-start-requires : tie.Need-level-start-requires
-level-start-requires c κs = search needs
-
-level-words-requires : tie.Need-level-words-requires
-level-words-requires c κs = search needs
-
 part-requires : tie.Need-part-requires
 part-requires c κs = omega (arith, level-room (c .before .before .before .args .l))
 
@@ -18,4 +12,4 @@ returns : tie.Need-returns
 returns c = as-level (c .before .before .level-start .ensures .is) (c .before .level-words .ensures) (c .part .ensures)
 
 pub level-spec : {M : Type 1} → statement M
-level-spec = tie.close (tie.spec level-start-requires level-words-requires part-requires returns)
+level-spec = tie.close (tie.spec (search needs) (search needs) part-requires returns)

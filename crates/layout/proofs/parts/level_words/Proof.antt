@@ -5,24 +5,14 @@ use Rattle.layout.specs.PartsLaws.{level-long}
 use Rattle.layout.proofs.parts.level_words.Statement.{statement}
 use Rattle.layout.proofs.parts.level_words.Tie as tie
 
-sub-result : tie.Need-sub-result
-sub-result c = search needs
-
 returns : tie.Need-returns
 returns c = search needs
 
-sub-result-2 : tie.Need-sub-result-2
-sub-result-2 c = search needs
-
 returns-2 : tie.Need-returns-2
 returns-2 c = search needs
-
-sub-result-3 : tie.Need-sub-result-3
-sub-result-3 c = search needs
 
 returns-3 : tie.Need-returns-3
 returns-3 c = sym (level-long _ (c .before .if1 .left) (c .if2 .left))
 
 pub level-words-spec : {M : Type 1} → statement M
-level-words-spec =
-    tie.close (tie.spec sub-result returns sub-result-2 returns-2 sub-result-3 returns-3)
+level-words-spec = tie.close (tie.spec (search needs) returns (search needs) returns-2 (search needs) returns-3)

@@ -4,17 +4,8 @@ use Rattle.layout.specs.PartsLaws.{as-page}
 use Rattle.layout.proofs.parts.page.Statement.{statement}
 use Rattle.layout.proofs.parts.page.Tie as tie
 
-cast-len : tie.Need-cast-len
-cast-len c = search needs
-
-mul-start : tie.Need-mul-start
-mul-start c = search needs
-
-part-requires : tie.Need-part-requires
-part-requires c κs = search needs
-
 returns : tie.Need-returns
 returns c = as-page (c .before .before .args .e) (c .part .ensures)
 
 pub page-spec : {M : Type 1} → statement M
-page-spec = tie.close (tie.spec cast-len mul-start part-requires returns)
+page-spec = tie.close (tie.spec (search needs) (search needs) (search needs) returns)

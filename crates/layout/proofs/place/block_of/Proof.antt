@@ -6,12 +6,6 @@ use borrow.Author.Needs.{needs}
 use Rattle.layout.proofs.place.block_of.Statement.{statement}
 use Rattle.layout.proofs.place.block_of.Tie as tie
 
-sub-full : tie.Need-sub-full
-sub-full c = search needs
-
-div-full : tie.Need-div-full
-div-full c = search needs
-
 add-result : tie.Need-add-result
 add-result c = omega (arith, div-le-self (c .before .args .place - 1) (c .before .args .s .block))
 
@@ -19,4 +13,4 @@ returns : tie.Need-returns
 returns c = search needs
 
 pub block-of-spec : {M : Type 1} → statement M
-block-of-spec = tie.close (tie.spec sub-full div-full add-result returns)
+block-of-spec = tie.close (tie.spec (search needs) (search needs) add-result returns)

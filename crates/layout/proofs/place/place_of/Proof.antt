@@ -5,9 +5,6 @@ use Rattle.layout.specs.Spot.{place-most}
 use Rattle.layout.proofs.place.place_of.Statement.{statement}
 use Rattle.layout.proofs.place.place_of.Tie as tie
 
-sub-result : tie.Need-sub-result
-sub-result c = search needs
-
 mul-result : tie.Need-mul-result
 mul-result c = omega (arith, place-most (c .before .pre))
 
@@ -21,4 +18,4 @@ returns : tie.Need-returns
 returns c = search needs
 
 pub place-of-spec : {M : Type 1} → statement M
-place-of-spec = tie.close (tie.spec sub-result mul-result add-result add-result-2 returns)
+place-of-spec = tie.close (tie.spec (search needs) mul-result add-result add-result-2 returns)

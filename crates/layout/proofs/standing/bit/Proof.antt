@@ -4,11 +4,8 @@ use Rattle.base.specs.Bits.{bit-shift}
 use Rattle.layout.proofs.standing.bit.Statement.{statement}
 use Rattle.layout.proofs.standing.bit.Tie as tie
 
-shr-result : tie.Need-shr-result
-shr-result c = search needs
-
 returns : tie.Need-returns
 returns c = rw (bit-shift (c .args .k) (c .args .x))
 
 pub bit-spec : {M : Type 1} → statement M
-bit-spec = tie.close (tie.spec shr-result returns)
+bit-spec = tie.close (tie.spec (search needs) returns)

@@ -7,11 +7,8 @@ use borrow.Author.Needs.{needs}
 use Rattle.layout.proofs.standing.weight.Statement.{statement}
 use Rattle.layout.proofs.standing.weight.Tie as tie
 
-shl-result : tie.Need-shl-result
-shl-result c = search needs
-
 returns : tie.Need-returns
 returns c = shl-exact 1 (c .args .k) 32 (omega arith) (omega arith) ∙ one-mul _
 
 pub weight-spec : {M : Type 1} → statement M
-weight-spec = tie.close (tie.spec shl-result returns)
+weight-spec = tie.close (tie.spec (search needs) returns)

@@ -2,7 +2,7 @@
 use native.Mathlib.Omega.{arith}
 use borrow.Author.Needs.{needs}
 use Rattle.layout.specs.Able.{able-first, able-next}
-use Rattle.layout.specs.Ran.{then}
+use Rattle.layout.specs.Ran.{then, ran-length}
 use Rattle.calls.specs.Placing.{enterTime}
 use Rattle.placing.proofs.AbleLaws.{writes}
 use Rattle.placing.proofs.blocks.enter_time.Statement.{statement}
@@ -14,10 +14,11 @@ write-requires c κs = writes _ (c .before .before .pre)
 
 enter-first-requires : tie.Need-enter-first-requires
 unfolding enterTime
-enter-first-requires c κs = (able-first (able-next (c .before .before .before .before .before .before .pre) (c .before .before .before .write .ensures)), omega arith)
-
-mul-enter-first : tie.Need-mul-enter-first
-mul-enter-first c = search needs
+enter-first-requires c κs = (
+  able-first (able-next (c .before .before .before .before .before .before .pre)
+      (c .before .before .before .write .ensures)),
+  omega arith,
+)
 
 enter-first-requires-2 : tie.Need-enter-first-requires-2
 unfolding enterTime
@@ -26,9 +27,6 @@ enter-first-requires-2 c κs =
     let b = d .before .before .before .before in
     let a = b .before .before .before in
     (able-next (able-next (a .pre) (b .write .ensures)) (d .enter-first .ensures), omega arith)
-
-same-length : tie.Need-same-length
-same-length c = search needs
 
 returns : tie.Need-returns
 unfolding enterTime
@@ -40,11 +38,5 @@ returns c =
 
 pub enter-time-spec : {M : Type 1} → statement M
 enter-time-spec =
-    tie.close
-    (tie.spec
-    write-requires
-    enter-first-requires
-    mul-enter-first
-    enter-first-requires-2
-    same-length
-    returns)
+    tie.close (tie.spec write-requires enter-first-requires (λ c. search needs) enter-first-requires-2
+    (λ c. ran-length (returns c)) returns)

@@ -1,7 +1,7 @@
 -- `changes::clear_tag` meets its contract: one step after the other, on the block and slot of the place that was read.
 use mathlib.Core.Path.{refl, sym, _∙_}
-use borrow.Author.Needs.{needs}
 use borrow.Author.Tests.{eq-eqb, ne-eqb}
+use Rattle.layout.specs.Ran.{ran-length}
 use Rattle.layout.specs.Able.{able-first, able-next, able-passed}
 use Rattle.layout.specs.Moved.{stays, after, if-taken, if-passed}
 use Rattle.calls.specs.Placing.{clearTag}
@@ -25,7 +25,9 @@ slot-of-requires c κs =
 
 end-record-requires : tie.Need-end-record-requires
 unfolding clearTag
-end-record-requires c κs = rw (c .before .before .block-of .ensures, c .before .slot-of .ensures) (able-first (able-next (c .before .before .before .before .before .before .before .pre .0) (c .before .before .before .read .ensures)))
+end-record-requires c κs =
+    rw (c .before .before .block-of .ensures, c .before .slot-of .ensures) (able-first (able-next
+    (c .before .before .before .before .before .before .before .pre .0) (c .before .before .before .read .ensures)))
 
 write-requires : tie.Need-write-requires
 unfolding clearTag
@@ -35,10 +37,10 @@ write-requires c κs =
     let d = f .before in
     let b = d .before in
     let a = b .before .before .before in
-    writes _ (able-next (able-next (a .before .pre .0) (b .read .ensures)) (rw (d .block-of .ensures, f .slot-of .ensures) at (g .end-record .ensures)))
-
-same-length : tie.Need-same-length
-same-length c = search needs
+    writes _ (able-next (able-next (a .before .pre .0) (b .read .ensures)) (rw (
+      d .block-of .ensures,
+      f .slot-of .ensures,
+    ) at (g .end-record .ensures)))
 
 returns : tie.Need-returns
 unfolding clearTag
@@ -48,7 +50,9 @@ returns c =
     let d = f .before .before in
     let b = d .before in
     let a = b .before in
-    after (a .read .ensures) (after (rw (b .block-of .ensures, d .slot-of .ensures) at (f .end-record .ensures)) (after (g .write .ensures) (if-taken (eq-eqb _ _ (sym (b .block-of .ensures) ∙ c .if1 .taken)) (stays refl (g .write .ensures .good)))))
+    after (a .read .ensures) (after (rw (b .block-of .ensures, d .slot-of .ensures) at (f .end-record .ensures))
+    (after (g .write .ensures) (if-taken (eq-eqb _ _ (sym (b .block-of .ensures) ∙ c .if1 .taken)) (stays refl
+    (g .write .ensures .good)))))
 
 judge-requires : tie.Need-judge-requires
 unfolding clearTag
@@ -60,10 +64,9 @@ judge-requires c κs =
     let d = f .before in
     let b = d .before in
     let a = b .before .before .before in
-    rw (d .block-of .ensures) (able-passed (ne-eqb _ _ (λ e. i .if1 .left (d .block-of .ensures ∙ e))) (able-next (able-next (able-next (a .before .pre .0) (b .read .ensures)) (rw (d .block-of .ensures, f .slot-of .ensures) at (g .end-record .ensures))) (h .write .ensures)))
-
-same-length-2 : tie.Need-same-length-2
-same-length-2 c = search needs
+    rw (d .block-of .ensures) (able-passed (ne-eqb _ _ (λ e. i .if1 .left (d .block-of .ensures ∙ e))) (able-next
+    (able-next (able-next (a .before .pre .0) (b .read .ensures)) (rw (d .block-of .ensures, f .slot-of .ensures) at
+    (g .end-record .ensures))) (h .write .ensures)))
 
 returns-2 : tie.Need-returns-2
 unfolding clearTag
@@ -75,19 +78,11 @@ returns-2 c =
     let d = f .before .before in
     let b = d .before in
     let a = b .before in
-    after (a .read .ensures) (after (rw (b .block-of .ensures, d .slot-of .ensures) at (f .end-record .ensures)) (after (g .write .ensures) (if-passed (ne-eqb _ _ (λ e. h .if1 .left (b .block-of .ensures ∙ e))) (rw (b .block-of .ensures) at (i .judge .ensures)))))
+    after (a .read .ensures) (after (rw (b .block-of .ensures, d .slot-of .ensures) at (f .end-record .ensures))
+    (after (g .write .ensures) (if-passed (ne-eqb _ _ (λ e. h .if1 .left (b .block-of .ensures ∙ e))) (rw
+    (b .block-of .ensures) at (i .judge .ensures)))))
 
 pub clear-tag-spec : {M : Type 1} → statement M
 clear-tag-spec =
-    tie.close
-    (tie.spec
-    read-requires
-    block-of-requires
-    slot-of-requires
-    end-record-requires
-    write-requires
-    same-length
-    returns
-    judge-requires
-    same-length-2
-    returns-2)
+    tie.close (tie.spec read-requires block-of-requires slot-of-requires end-record-requires write-requires
+    (λ c. ran-length (returns c .ran)) returns judge-requires (λ c. ran-length (returns-2 c .ran)) returns-2)

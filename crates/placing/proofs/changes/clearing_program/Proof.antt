@@ -1,7 +1,7 @@
 -- `changes::clearing_program` meets its contract: the clear first, then as a clear or as a new reading.
-use borrow.Author.Needs.{needs}
 use borrow.Author.Tests.{eq-eqb, ne-eqb}
 use Rattle.base.specs.Branch.{is?}
+use Rattle.layout.specs.Ran.{ran-length}
 use Rattle.layout.specs.Able.{able-first, able-next, able-taken, able-passed}
 use Rattle.layout.specs.Moved.{onto, if-taken, if-passed}
 use Rattle.calls.specs.Placing.{clearProgram, updateProgram}
@@ -24,9 +24,6 @@ finish-requires c κs =
     let m = c .before .before .before .before .clear-tag .ensures in
     let entry = c .before .before .before .before .before .before .before in
     rw (m .settings) (able-next (able-taken (eq-eqb _ _ (c .before .if1 .taken)) (entry .pre .0)) (m .ran))
-
-same-length : tie.Need-same-length
-same-length c = search needs
 
 returns : tie.Need-returns
 unfolding clearProgram
@@ -51,9 +48,6 @@ finish-requires-2 c κs =
     let a = able-passed (ne-eqb _ _ (c .before .before .before .before .before .if1 .left)) (entry .pre .0) in
     rw (n .settings, m .settings) (able-next (able-next a (m .ran)) (rw (m .settings) at (n .ran)))
 
-same-length-2 : tie.Need-same-length-2
-same-length-2 c = search needs
-
 returns-2 : tie.Need-returns-2
 unfolding updateProgram
 returns-2 c =
@@ -65,4 +59,5 @@ returns-2 c =
 
 pub clearing-program-spec : {M : Type 1} → statement M
 clearing-program-spec =
-    tie.close (tie.spec clear-tag-requires finish-requires same-length returns place-requires finish-requires-2 same-length-2 returns-2)
+    tie.close (tie.spec clear-tag-requires finish-requires (λ c. ran-length (returns c .ran)) returns place-requires
+    finish-requires-2 (λ c. ran-length (returns-2 c .ran)) returns-2)

@@ -1,19 +1,14 @@
 -- `changes::finish` meets its contract: the next head is stored and handed back.
 use borrow.Author.Needs.{needs}
+use Rattle.layout.specs.Ran.{ran-length}
 use Rattle.layout.specs.Able.{able-held}
 use Rattle.layout.specs.Moved.{moves, after}
 use Rattle.calls.specs.Placing.{finish}
 use Rattle.placing.proofs.changes.finish.Statement.{statement}
 use Rattle.placing.proofs.changes.finish.Tie as tie
 
-at-requires : tie.Need-at-requires
-at-requires c κs = search needs
-
 write-cursor-requires : tie.Need-write-cursor-requires
 write-cursor-requires c κs = rw (c .before .at .ensures) (able-held (c .before .before .before .pre))
-
-same-length : tie.Need-same-length
-same-length c = search needs
 
 returns : tie.Need-returns
 unfolding finish
@@ -23,4 +18,5 @@ returns c =
     after w (moves e (w .good))
 
 pub finish-spec : {M : Type 1} → statement M
-finish-spec = tie.close (tie.spec at-requires write-cursor-requires same-length returns)
+finish-spec =
+    tie.close (tie.spec (λ c κs. search needs) write-cursor-requires (λ c. ran-length (returns c .ran)) returns)

@@ -1,5 +1,5 @@
 -- `changes::set_program` meets its contract: one step, then the other.
-use borrow.Author.Needs.{needs}
+use Rattle.layout.specs.Ran.{ran-length}
 use Rattle.layout.specs.Able.{able-first, able-next}
 use Rattle.layout.specs.Moved.{onto}
 use Rattle.calls.specs.Placing.{setProgram}
@@ -16,9 +16,6 @@ finish-requires c κs =
     let m = c .before .before .before .place .ensures in
     rw (m .settings) (able-next (c .before .before .before .before .before .before .pre) (m .ran))
 
-same-length : tie.Need-same-length
-same-length c = search needs
-
 returns : tie.Need-returns
 unfolding setProgram
 returns c =
@@ -26,4 +23,4 @@ returns c =
     onto m (rw (m .settings) at (c .before .before .finish .ensures))
 
 pub set-program-spec : {M : Type 1} → statement M
-set-program-spec = tie.close (tie.spec place-requires finish-requires same-length returns)
+set-program-spec = tie.close (tie.spec place-requires finish-requires (λ c. ran-length (returns c .ran)) returns)

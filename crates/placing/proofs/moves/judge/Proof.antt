@@ -1,10 +1,11 @@
--- `moves::judge` meets its contract: with fewer than q standing the block closes.
+-- `moves::judge` meets its contract: with fewer than q standing the block is unlinked, and its records go on.
 use mathlib.Core.Path.{refl, sym, _∙_}
 use borrow.Author.Needs.{needs}
-use Rattle.layout.specs.Able.{able-next, able-taken}
-use Rattle.layout.specs.Moved.{stays, after, if-taken, if-passed}
-use Rattle.calls.specs.Placing.{judge}
-use Rattle.placing.proofs.AbleLaws.{asks-standing, ran-standing}
+use Rattle.layout.specs.Able.{able-first, able-next}
+use Rattle.layout.specs.Ran.{ran-length}
+use Rattle.layout.specs.Moved.{stays, after, onto, if-passed}
+use Rattle.calls.specs.Placing.{judge, close}
+use Rattle.placing.proofs.AbleLaws.{asks-standing, ran-standing, able-few, if-few}
 use Rattle.placing.proofs.moves.judge.Statement.{statement}
 use Rattle.placing.proofs.moves.judge.Tie as tie
 
@@ -12,26 +13,28 @@ standing-requires : tie.Need-standing-requires
 unfolding judge
 standing-requires c κs = asks-standing (c .before .before .before .pre)
 
-too-few-requires : tie.Need-too-few-requires
-too-few-requires c κs = search needs
+unlink-requires : tie.Need-unlink-requires
+unfolding judge close
+unlink-requires c κs =
+    able-first (able-few _ (c .before .before .before .before .before .before .before .pre)
+    (c .before .before .before .standing .ensures) (c .before .before .too-few .ensures) (c .before .if1 .taken))
 
-close-requires : tie.Need-close-requires
-unfolding judge
-close-requires c κs =
-    let a = c .before .before .before .before .before .before .before .pre in
-    able-taken (sym (c .before .before .too-few .ensures) ∙ c .before .if1 .taken) (able-next a (ran-standing _ a (c .before .before .before .standing .ensures)))
-
-same-length : tie.Need-same-length
-same-length c = search needs
+replace-all-requires : tie.Need-replace-all-requires
+unfolding judge close
+replace-all-requires c κs =
+    let few = c .before .before .before .before .before in
+    let m = c .before .before .before .unlink .ensures in
+    rw (m .settings) (able-next (able-few _ (few .before .before .before .before .before .before .pre)
+    (few .before .before .standing .ensures) (few .before .too-few .ensures) (few .if1 .taken)) (m .ran))
 
 returns : tie.Need-returns
-unfolding judge
+unfolding judge close
 returns c =
-    let r = ran-standing _ (c .before .before .before .before .before .before .before .before .before .before .pre) (c .before .before .before .before .before .before .standing .ensures) in
-    after r (if-taken (sym (c .before .before .before .before .before .too-few .ensures) ∙ c .before .before .before .before .if1 .taken) (c .before .before .close .ensures))
-
-same-length-2 : tie.Need-same-length-2
-same-length-2 c = search needs
+    let few = c .before .before .before .before .before .before .before .before in
+    let m = c .before .before .before .before .before .before .unlink .ensures in
+    if-few _ (few .before .before .before .before .before .before .pre) (few .before .before .standing .ensures)
+    (few .before .too-few .ensures) (few .if1 .taken)
+    (onto m (rw (m .settings) at (c .before .before .replace-all .ensures)))
 
 returns-2 : tie.Need-returns-2
 unfolding judge
@@ -41,12 +44,5 @@ returns-2 c =
 
 pub judge-spec : {M : Type 1} → statement M
 judge-spec =
-    tie.close
-    (tie.spec
-    standing-requires
-    too-few-requires
-    close-requires
-    same-length
-    returns
-    same-length-2
-    returns-2)
+    tie.close (tie.spec standing-requires (λ c κs. search needs) unlink-requires replace-all-requires
+    (λ c. ran-length (returns c .ran)) returns (λ c. ran-length (returns-2 c .ran)) returns-2)

@@ -1,7 +1,7 @@
 -- `moves::make_room` meets its contract: either test opens a block.
 use mathlib.Core.Path.{refl}
-use borrow.Author.Needs.{needs}
 use borrow.Author.Tests.{eq-eqb, ne-eqb}
+use Rattle.layout.specs.Ran.{ran-length}
 use Rattle.layout.specs.Able.{able-taken}
 use Rattle.layout.specs.Moved.{stays, if-taken, if-passed}
 use Rattle.calls.specs.Placing.{makeRoom}
@@ -12,29 +12,32 @@ roll-requires : tie.Need-roll-requires
 unfolding makeRoom
 roll-requires c κs = able-taken (rw (eq-eqb _ _ (c .before .if1 .taken))) (c .before .before .before .before .pre)
 
-same-length : tie.Need-same-length
-same-length c = search needs
-
 returns : tie.Need-returns
 unfolding makeRoom
 returns c = if-taken (rw (eq-eqb _ _ (c .before .before .before .before .if1 .taken))) (c .before .before .roll .ensures)
 
 roll-requires-2 : tie.Need-roll-requires-2
 unfolding makeRoom
-roll-requires-2 c κs = able-taken (rw (ne-eqb _ _ (c .before .before .before .if1 .left), eq-eqb _ _ (c .before .if2 .taken))) (c .before .before .before .before .before .before .pre)
-
-same-length-2 : tie.Need-same-length-2
-same-length-2 c = search needs
+roll-requires-2 c κs =
+    able-taken (rw (ne-eqb _ _ (c .before .before .before .if1 .left), eq-eqb _ _ (c .before .if2 .taken)))
+    (c .before .before .before .before .before .before .pre)
 
 returns-2 : tie.Need-returns-2
 unfolding makeRoom
-returns-2 c = if-taken (rw (ne-eqb _ _ (c .before .before .before .before .before .before .if1 .left), eq-eqb _ _ (c .before .before .before .before .if2 .taken))) (c .before .before .roll2 .ensures)
+returns-2 c =
+    if-taken (rw (
+      ne-eqb _ _ (c .before .before .before .before .before .before .if1 .left),
+      eq-eqb _ _
+          (c .before .before .before .before .if2 .taken),
+    )) (c .before .before .roll2 .ensures)
 
 returns-3 : tie.Need-returns-3
 unfolding makeRoom
-returns-3 c = if-passed (rw (ne-eqb _ _ (c .before .before .if1 .left), ne-eqb _ _ (c .if2 .left))) (stays refl (c .before .before .before .before .before .pre .agree .good))
+returns-3 c =
+    if-passed (rw (ne-eqb _ _ (c .before .before .if1 .left), ne-eqb _ _ (c .if2 .left))) (stays refl
+    (c .before .before .before .before .before .pre .agree .good))
 
 pub make-room-spec : {M : Type 1} → statement M
 make-room-spec =
-    tie.close
-    (tie.spec roll-requires same-length returns roll-requires-2 same-length-2 returns-2 returns-3)
+    tie.close (tie.spec roll-requires (λ c. ran-length (returns c .ran)) returns roll-requires-2
+    (λ c. ran-length (returns-2 c .ran)) returns-2 returns-3)

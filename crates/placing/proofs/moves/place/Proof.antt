@@ -1,5 +1,5 @@
 -- `moves::place` meets its contract: one step, then the other.
-use borrow.Author.Needs.{needs}
+use Rattle.layout.specs.Ran.{ran-length}
 use Rattle.layout.specs.Able.{able-first, able-next}
 use Rattle.layout.specs.Moved.{onto}
 use Rattle.calls.specs.Placing.{place}
@@ -16,9 +16,6 @@ put-record-requires c κs =
     let m = c .before .before .before .make-room .ensures in
     rw (m .settings) (able-next (c .before .before .before .before .before .before .pre) (m .ran))
 
-same-length : tie.Need-same-length
-same-length c = search needs
-
 returns : tie.Need-returns
 unfolding place
 returns c =
@@ -26,4 +23,4 @@ returns c =
     onto m (rw (m .settings) at (c .before .before .put-record .ensures))
 
 pub place-spec : {M : Type 1} → statement M
-place-spec = tie.close (tie.spec make-room-requires put-record-requires same-length returns)
+place-spec = tie.close (tie.spec make-room-requires put-record-requires (λ c. ran-length (returns c .ran)) returns)

@@ -1,5 +1,5 @@
 -- `moves::replace` meets its contract: one step, then the other.
-use borrow.Author.Needs.{needs}
+use Rattle.layout.specs.Ran.{ran-length}
 use Rattle.layout.specs.Able.{able-first, able-next}
 use Rattle.layout.specs.Moved.{onto}
 use Rattle.calls.specs.Placing.{replace}
@@ -16,9 +16,6 @@ move-record-requires c κs =
     let m = c .before .before .before .make-room .ensures in
     rw (m .settings) (able-next (c .before .before .before .before .before .before .pre) (m .ran))
 
-same-length : tie.Need-same-length
-same-length c = search needs
-
 returns : tie.Need-returns
 unfolding replace
 returns c =
@@ -26,4 +23,4 @@ returns c =
     onto m (rw (m .settings) at (c .before .before .move-record .ensures))
 
 pub replace-spec : {M : Type 1} → statement M
-replace-spec = tie.close (tie.spec make-room-requires move-record-requires same-length returns)
+replace-spec = tie.close (tie.spec make-room-requires move-record-requires (λ c. ran-length (returns c .ran)) returns)

@@ -1,9 +1,7 @@
 -- `moves::replace_all` meets its contract: a turn for each standing slot (LoopLaws).
-use mathlib.Core.Path.{sym, _∙_}
 use native.Mathlib.Omega.{arith}
 use lib.ListN.{length}
 use borrow.Author.Needs.{needs}
-use borrow.Author.Tests.{not-true, not-false}
 use Rattle.layout.specs.Standing.{slots}
 use Rattle.calls.specs.Placing.{replace}
 use Rattle.placing.proofs.LoopLaws.{Going, going, going-able, going-less, going-on, going-end}
@@ -11,62 +9,39 @@ use Rattle.placing.proofs.moves.replace_all.Statement.{statement}
 use Rattle.placing.proofs.moves.replace_all.Tie as tie
 
 abbrev Inv-loop : tie.InvT-loop
-Inv-loop store₀ x second head₀ left₀ store head left = Going (replace (head₀ .settings) x second) store₀ head₀ left₀ store head left
+Inv-loop store₀ x second head₀ left₀ = Going (λ s. replace s x second) store₀ head₀ left₀
 
 abbrev μ-loop : tie.MeasureT-loop
 μ-loop store₀ x second head₀ left₀ store head left = length (slots left)
 
 loop-holds : tie.Need-loop-holds Inv-loop μ-loop
-loop-holds c = going (c .before .pre) (record { low = omega arith; high = omega arith })
-
-is-empty-requires : tie.Need-is-empty-requires Inv-loop μ-loop
-is-empty-requires c κs = search needs
-
-first-requires : tie.Need-first-requires Inv-loop μ-loop
-first-requires c κs = search needs
+loop-holds c = going _ (c .before .pre) (record { low = omega arith; high = omega arith })
 
 replace-requires : tie.Need-replace-requires Inv-loop μ-loop
 replace-requires c κs =
-    let g = c .before .before .before .before .loop .inv in
-    rw (g .settings) (going-able g (sym (c .before .before .before .is-empty .ensures) ∙ not-true _ (c .before .before .if1 .taken)) (c .before .first .ensures))
-
-rest-requires : tie.Need-rest-requires Inv-loop μ-loop
-rest-requires c κs = search needs
+    going-able (c .before .before .before .before .loop .inv) (c .before .before .before .is-empty .ensures) (c .before .before .if1 .taken)
+    (c .before .first .ensures)
 
 loop-less : tie.Need-loop-less Inv-loop μ-loop
 loop-less c =
-    let d = c .before .before .before .before .before .before in
-    let b = d .before in
-    let a = b .before in
-    going-less (a .loop .inv) (sym (b .is-empty .ensures) ∙ not-true _ (d .if1 .taken)) (c .rest .ensures)
+    let some = c .before .before .before .before .before .before in
+    going-less (some .before .before .loop .inv) (some .before .is-empty .ensures) (some .if1 .taken) (c .rest .ensures)
 
 loop-again : tie.Need-loop-again Inv-loop μ-loop
 loop-again c =
-    let g = c .before .before .before in
-    let f = g .before .before in
-    let d = f .before in
-    let b = d .before in
-    let a = b .before in
-    going-on (a .loop .inv) (sym (b .is-empty .ensures) ∙ not-true _ (d .if1 .taken)) (f .first .ensures) (c .rest .ensures) (rw (a .loop .inv .settings) at (g .replace .ensures))
+    let moved = c .before .before .before in
+    let first = moved .before .before in
+    let some = first .before in
+    going-on (some .before .before .loop .inv) (some .before .is-empty .ensures) (some .if1 .taken) (first .first .ensures)
+    (moved .replace .ensures) (c .rest .ensures)
 
 same-length : tie.Need-same-length Inv-loop μ-loop
 same-length c = c .before .before .loop .inv .long
 
 returns : tie.Need-returns Inv-loop μ-loop
-returns c = going-end (c .before .before .loop .inv) (sym (c .before .is-empty .ensures) ∙ not-false _ (c .if1 .left))
+returns c = going-end (c .before .before .loop .inv) (c .before .is-empty .ensures) (c .if1 .left)
 
 pub replace-all-spec : {M : Type 1} → statement M
 replace-all-spec =
-    tie.close
-    (tie.spec
-    Inv-loop
-    μ-loop
-    loop-holds
-    is-empty-requires
-    first-requires
-    replace-requires
-    rest-requires
-    loop-less
-    loop-again
-    same-length
-    returns)
+    tie.close (tie.spec Inv-loop μ-loop loop-holds (λ c κs. search needs) (λ c κs. search needs) replace-requires
+    (λ c κs. search needs) loop-less loop-again same-length returns)

@@ -1,6 +1,6 @@
 -- `moves::roll` meets its contract: a block opens, and the one before it, if any, is judged.
-use borrow.Author.Needs.{needs}
 use borrow.Author.Tests.{eq-eqb, ne-eqb}
+use Rattle.layout.specs.Ran.{ran-length}
 use Rattle.layout.specs.Able.{able-first, able-next, able-passed}
 use Rattle.layout.specs.Moved.{stays, after, onto, if-taken, if-passed}
 use Rattle.calls.specs.Placing.{roll}
@@ -10,9 +10,6 @@ use Rattle.placing.proofs.moves.roll.Tie as tie
 open-block-requires : tie.Need-open-block-requires
 unfolding roll
 open-block-requires c κs = able-first (c .before .before .pre)
-
-same-length : tie.Need-same-length
-same-length c = search needs
 
 returns : tie.Need-returns
 unfolding roll
@@ -24,10 +21,8 @@ judge-full-requires : tie.Need-judge-full-requires
 unfolding roll
 judge-full-requires c κs =
     let m = c .before .before .before .before .open-block .ensures in
-    rw (m .settings) (able-passed (ne-eqb _ _ (c .before .if1 .left)) (able-next (c .before .before .before .before .before .before .before .pre) (m .ran)))
-
-same-length-2 : tie.Need-same-length-2
-same-length-2 c = search needs
+    rw (m .settings) (able-passed (ne-eqb _ _ (c .before .if1 .left)) (able-next
+    (c .before .before .before .before .before .before .before .pre) (m .ran)))
 
 returns-2 : tie.Need-returns-2
 unfolding roll
@@ -37,5 +32,5 @@ returns-2 c =
 
 pub roll-spec : {M : Type 1} → statement M
 roll-spec =
-    tie.close
-    (tie.spec open-block-requires same-length returns judge-full-requires same-length-2 returns-2)
+    tie.close (tie.spec open-block-requires (λ c. ran-length (returns c .ran)) returns judge-full-requires
+    (λ c. ran-length (returns-2 c .ran)) returns-2)

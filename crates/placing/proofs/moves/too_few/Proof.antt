@@ -3,11 +3,8 @@ use borrow.Author.Needs.{needs}
 use Rattle.placing.proofs.moves.too_few.Statement.{statement}
 use Rattle.placing.proofs.moves.too_few.Tie as tie
 
-count-requires : tie.Need-count-requires
-count-requires c κs = search needs
-
 returns : tie.Need-returns
 returns c = rw (c .before .count .ensures)
 
 pub too-few-spec : {M : Type 1} → statement M
-too-few-spec = tie.close (tie.spec count-requires returns)
+too-few-spec = tie.close (tie.spec (λ c κs. search needs) returns)

@@ -1,25 +1,22 @@
 -- `records::end_record` meets its contract: one step after the other.
-use Rattle.layout.specs.Ran.{then}
-use Rattle.calls.specs.Placing.{endRecord}
-use Rattle.placing.proofs.AbleLaws.{end-spot}
 use borrow.Author.Needs.{needs}
+use Rattle.layout.specs.Ran.{then, ran-length}
+use Rattle.calls.specs.Placing.{endRecord}
+use Rattle.placing.proofs.AbleLaws.{writes, bits-after, end-spot}
 use Rattle.placing.proofs.records.end_record.Statement.{statement}
 use Rattle.placing.proofs.records.end_record.Tie as tie
 
 write-requires : tie.Need-write-requires
-write-requires c κs = let p = end-spot _ _ _ (c .before .before .pre) in search needs
+unfolding endRecord
+write-requires c κs = writes _ (c .before .before .pre)
 
 read-requires : tie.Need-read-requires
-read-requires c κs = let p = end-spot _ _ _ (c .before .before .before .before .before .before .pre) in search needs
-
-bit-off-requires : tie.Need-bit-off-requires
-bit-off-requires c κs = search needs
+read-requires c κs = bits-after (end-spot _ _ _ (c .before .before .before .before .before .before .pre)) (c .before .before .before .write .ensures)
 
 write-requires-2 : tie.Need-write-requires-2
-write-requires-2 c κs = let p = end-spot _ _ _ (c .before .before .before .before .before .before .before .before .before .pre) in search needs
-
-same-length : tie.Need-same-length
-same-length c = search needs
+write-requires-2 c κs =
+    bits-after (end-spot _ _ _ (c .before .before .before .before .before .before .before .before .before .pre))
+    (c .before .before .read .ensures)
 
 returns : tie.Need-returns
 unfolding endRecord
@@ -32,11 +29,5 @@ returns c =
 
 pub end-record-spec : {M : Type 1} → statement M
 end-record-spec =
-    tie.close
-    (tie.spec
-    write-requires
-    read-requires
-    bit-off-requires
-    write-requires-2
-    same-length
-    returns)
+    tie.close (tie.spec write-requires read-requires (λ c κs. search needs) write-requires-2
+    (λ c. ran-length (returns c)) returns)

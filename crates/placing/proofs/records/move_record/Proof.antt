@@ -1,5 +1,5 @@
 -- `records::move_record` meets its contract: one step after the other.
-use borrow.Author.Needs.{needs}
+use Rattle.layout.specs.Ran.{ran-length}
 use Rattle.layout.specs.Able.{able-first, able-next}
 use Rattle.layout.specs.Moved.{after}
 use Rattle.calls.specs.Placing.{moveRecord}
@@ -17,7 +17,9 @@ read-requires-2 c κs = reads _ (able-next (c .before .before .before .before .b
 
 end-record-requires : tie.Need-end-record-requires
 unfolding moveRecord
-end-record-requires c κs = able-first (able-next (able-next (c .before .before .before .before .before .before .before .pre) (c .before .before .before .read .ensures)) (c .before .read2 .ensures))
+end-record-requires c κs =
+    able-first (able-next (able-next (c .before .before .before .before .before .before .before .pre)
+    (c .before .before .before .read .ensures)) (c .before .read2 .ensures))
 
 put-record-requires : tie.Need-put-record-requires
 unfolding moveRecord
@@ -27,9 +29,6 @@ put-record-requires c κs =
     let b = d .before .before in
     let a = b .before .before .before in
     able-next (able-next (able-next (a .before .pre) (b .read .ensures)) (d .read2 .ensures)) (f .end-record .ensures)
-
-same-length : tie.Need-same-length
-same-length c = search needs
 
 returns : tie.Need-returns
 unfolding moveRecord
@@ -42,11 +41,5 @@ returns c =
 
 pub move-record-spec : {M : Type 1} → statement M
 move-record-spec =
-    tie.close
-    (tie.spec
-    read-requires
-    read-requires-2
-    end-record-requires
-    put-record-requires
-    same-length
-    returns)
+    tie.close (tie.spec read-requires read-requires-2 end-record-requires put-record-requires
+    (λ c. ran-length (returns c .ran)) returns)

@@ -1,11 +1,11 @@
 -- `records::put_record` meets its contract: one step after the other.
-use mathlib.Core.Path.{_∙_}
-use native.Mathlib.Omega.{arith}
+use mathlib.Core.Path.{refl}
 use borrow.Author.Needs.{needs}
+use Rattle.layout.specs.Fields.{readingWord, fromWord, toWord}
 use Rattle.layout.specs.Ran.{ran-length}
 use Rattle.layout.specs.Moved.{moves, after}
 use Rattle.calls.specs.Placing.{putRecord}
-use Rattle.placing.proofs.AbleLaws.{put-spot, put-tag, held-after}
+use Rattle.placing.proofs.AbleLaws.{writes, held-after, slot-after, bits-after, put-spot, put-fill, put-tag}
 use Rattle.placing.proofs.records.put_record.Statement.{statement}
 use Rattle.placing.proofs.records.put_record.Tie as tie
 
@@ -13,47 +13,47 @@ place-of-requires : tie.Need-place-of-requires
 place-of-requires c κs = put-spot _ _ _ _ (c .before .before .pre)
 
 write-requires : tie.Need-write-requires
-write-requires c κs = let p = put-spot _ _ _ _ (c .before .before .before .before .pre) in search needs
+unfolding putRecord
+write-requires c κs = writes _ (c .before .before .before .before .pre)
 
 write-requires-2 : tie.Need-write-requires-2
-write-requires-2 c κs = let p = put-spot _ _ _ _ (c .before .before .before .before .before .before .before .before .pre) in search needs
+write-requires-2 c κs =
+    slot-after (put-spot _ _ _ _ (c .before .before .before .before .before .before .before .before .pre))
+    (c .before .before .before .write .ensures) readingWord refl
 
 write-requires-3 : tie.Need-write-requires-3
-write-requires-3 c κs = let p = put-spot _ _ _ _ (c .before .before .before .before .before .before .before .before .before .before .before .before .pre) in search needs
+write-requires-3 c κs =
+    slot-after (put-spot _ _ _ _
+    (c .before .before .before .before .before .before .before .before .before .before .before .before .pre))
+    (c .before .before .before .write2 .ensures) fromWord refl
 
 write-requires-4 : tie.Need-write-requires-4
-write-requires-4 c κs = let p = put-spot _ _ _ _ (c .before .before .before .before .before .before .before .before .before .before .before .before .before .before .before .before .pre) in search needs
+write-requires-4 c κs =
+    slot-after (put-spot _ _ _ _
+    (c .before .before .before .before .before .before .before .before .before .before .before .before .before .before .before .before .pre))
+    (c .before .before .before .write3 .ensures) toWord refl
 
 read-requires : tie.Need-read-requires
-read-requires c κs = let p = put-spot _ _ _ _ (c .before .before .before .before .before .before .before .before .before .before .before .before .before .before .before .before .before .before .before .before .pre) in search needs
-
-bit-on-requires : tie.Need-bit-on-requires
-bit-on-requires c κs = search needs
+read-requires c κs =
+    bits-after (put-spot _ _ _ _
+    (c .before .before .before .before .before .before .before .before .before .before .before .before .before .before .before .before .before .before .before .before .pre))
+    (c .before .before .before .write4 .ensures)
 
 write-requires-5 : tie.Need-write-requires-5
 write-requires-5 c κs =
-    let b = c .before .before in
-    let a = b .before .before .before .before .before .before .before .before .before .before .before .before .before .before .before .before .before .before .before .before in
-    let p = put-spot _ _ _ _ (a .before .pre) in ((p .block, omega (arith, p .slot, p .within)), held-after (a .before .pre) (b .read .ensures))
+    bits-after (put-spot _ _ _ _
+    (c .before .before .before .before .before .before .before .before .before .before .before .before .before .before .before .before .before .before .before .before .before .before .before .pre))
+    (c .before .before .read .ensures)
 
 write-requires-6 : tie.Need-write-requires-6
 write-requires-6 c κs =
-    let b = c .before .before .before in
-    let a = b .before .before .before .before .before .before .before .before .before .before .before .before .before .before .before .before .before .before .before .before .before .before .before in
-    (put-tag _ _ _ _ (a .before .pre), held-after (a .before .pre) (b .write5 .ensures))
+    let entry = c .before .before .before .before .before .before .before .before .before .before .before .before .before .before .before .before .before .before .before .before .before .before .before .before .before .before .before in
+    (put-tag _ _ _ _ (entry .pre), held-after (entry .pre) (c .before .before .before .write5 .ensures))
 
 filled-requires : tie.Need-filled-requires
-filled-requires c κs = let p = put-spot _ _ _ _ (c .before .before .before .before .before .before .before .before .before .before .before .before .before .before .before .before .before .before .before .before .before .before .before .before .before .before .before .before .before .before .pre) in omega (arith, p .slot, p .within)
-
-same-length : tie.Need-same-length
-same-length c =
-    let h = c .before .before .before in
-    let g = h .before .before .before .before in
-    let f = g .before .before .before .before .before .before .before in
-    let d = f .before .before .before .before in
-    let b = d .before .before .before .before in
-    let a = b .before .before .before .before in
-    ran-length (h .write6 .ensures) ∙ (ran-length (g .write5 .ensures) ∙ (ran-length (f .write4 .ensures) ∙ (ran-length (d .write3 .ensures) ∙ (ran-length (b .write2 .ensures) ∙ ran-length (a .write .ensures)))))
+filled-requires c κs =
+    put-fill _ _ _ _
+    (c .before .before .before .before .before .before .before .before .before .before .before .before .before .before .before .before .before .before .before .before .before .before .before .before .before .before .before .before .before .before .pre)
 
 returns : tie.Need-returns
 unfolding putRecord
@@ -67,21 +67,12 @@ returns c =
     let d = f .before .before .before .before in
     let b = d .before .before .before .before in
     let a = b .before .before in
-    after (b .write .ensures) (after (d .write2 .ensures) (after (f .write3 .ensures) (after (g .write4 .ensures) (after (h .read .ensures) (after (rw (i .bit-on .ensures) at (j .write5 .ensures)) (after (rw (a .place-of .ensures) at (k .write6 .ensures)) (moves (c .filled .ensures) (k .write6 .ensures .good))))))))
+    after (b .write .ensures) (after (d .write2 .ensures) (after (f .write3 .ensures) (after (g .write4 .ensures)
+    (after (h .read .ensures) (after (rw (i .bit-on .ensures) at (j .write5 .ensures))
+    (after (rw (a .place-of .ensures) at (k .write6 .ensures)) (moves (c .filled .ensures) (k .write6 .ensures .good))))))))
 
 pub put-record-spec : {M : Type 1} → statement M
 put-record-spec =
-    tie.close
-    (tie.spec
-    place-of-requires
-    write-requires
-    write-requires-2
-    write-requires-3
-    write-requires-4
-    read-requires
-    bit-on-requires
-    write-requires-5
-    write-requires-6
-    filled-requires
-    same-length
-    returns)
+    tie.close (tie.spec place-of-requires write-requires write-requires-2 write-requires-3 write-requires-4
+    read-requires (λ c κs. search needs) write-requires-5 write-requires-6 filled-requires
+    (λ c. ran-length (returns c .ran)) returns)

@@ -46,16 +46,10 @@ module _ (t : ℕ) where
       let entry = c .before .before .pre .1 in
       omega (arith, entries-most _ _ (entry .level), entry .entry)
 
-  at-requires : descend-lts.Need-at-requires (calls t) (descend-at t) descend.Post
-  at-requires c κs = search needs
-
   returns : descend-lts.Need-returns (calls t) (descend-at t) descend.Post
   returns c = descend-ground _ _ _ _ _ (c .before .if1 .taken) (c .at .ensures)
 
   -- ---- a page below
-  sub-below : descend-lts.Need-sub-below (calls t) (descend-at t) descend.Post
-  sub-below c = search needs
-
   -- the level below has the page,
   page : (c : descend-lts.Else1 (calls t) (descend-at t) descend.Post)
       → let a = c .before .before .args in
@@ -79,9 +73,6 @@ module _ (t : ℕ) where
       let below = page (c .before .before) in
       omega (arith, entries-most _ _ (below .level), below .some)
 
-  sub-descend : descend-lts.Need-sub-descend (calls t) (descend-at t) descend.Post
-  sub-descend c = search needs
-
   add-descend : descend-lts.Need-add-descend (calls t) (descend-at t) descend.Post
   add-descend c = omega (arith, entries-most _ _ (entry c .level), entry c .entry)
 
@@ -91,12 +82,6 @@ module _ (t : ℕ) where
       (omega (arith, at-if1 .before .before .pre .0, at-if1 .if1 .left), entry c)
 
   -- ---- what lies below it
-  enum-told : descend-lts.Need-enum-told (calls t) (descend-at t) descend.Post
-  enum-told c = search needs
-
-  enum-known-found : descend-lts.Need-enum-known-found (calls t) (descend-at t) descend.Post
-  enum-known-found c = search needs
-
   passing-requires : descend-lts.Need-passing-requires (calls t) (descend-at t) descend.Post
   passing-requires c κs =
       let at-descend = c .before .before .before in
@@ -122,17 +107,17 @@ module _ (t : ℕ) where
 pub +descend-spec : {M : Type 1} → statement M
 +descend-spec = close μ-descend λ t. descend-lts.spec (calls t) (descend-at t) descend.Post
     (add-at t)
-    (at-requires t)
+    (search needs)
     (returns t)
-    (sub-below t)
+    (search needs)
     (look-up-requires t)
     (returns-2 t)
     (mul-descend t)
-    (sub-descend t)
+    (search needs)
     (add-descend t)
     (descend-requires t)
-    (enum-told t)
-    (enum-known-found t)
+    (search needs)
+    (search needs)
     (passing-requires t)
     (returns-3 t)
     (returns-4 t)

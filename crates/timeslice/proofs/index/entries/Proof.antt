@@ -9,24 +9,12 @@ use Rattle.timeslice.proofs.index.entries.Tie as tie
 returns : tie.Need-returns
 returns c = entries-ground _ (c .if1 .taken)
 
-sub-first : tie.Need-sub-first
-sub-first c = search needs
-
-add-first : tie.Need-add-first
-add-first c = search needs
-
 returns-2 : tie.Need-returns-2
 returns-2 c = entries-first _ (c .if2 .taken)
-
-sub-result : tie.Need-sub-result
-sub-result c = search needs
-
-add-result : tie.Need-add-result
-add-result c = search needs
 
 returns-3 : tie.Need-returns-3
 returns-3 c = entries-second _ (omega (arith, c .before .before .pre .three, c .before .if1 .left, c .if2 .left))
 
 pub entries-spec : {M : Type 1} → statement M
 entries-spec =
-    tie.close (tie.spec returns sub-first add-first returns-2 sub-result add-result returns-3)
+    tie.close (tie.spec returns (search needs) (search needs) returns-2 (search needs) (search needs) returns-3)

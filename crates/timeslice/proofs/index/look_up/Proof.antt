@@ -5,17 +5,8 @@ use borrow.Author.Needs.{needs}
 use Rattle.timeslice.proofs.index.look_up.Statement.{statement}
 use Rattle.timeslice.proofs.index.look_up.Tie as tie
 
-level-requires : tie.Need-level-requires
-level-requires c κs = search needs
-
 page-requires : tie.Need-page-requires
 page-requires c κs = page-in (c .level .ensures) (c .before .before .pre)
-
-on-page-requires : tie.Need-on-page-requires
-on-page-requires c κs = search needs
-
-last-up-to-requires : tie.Need-last-up-to-requires
-last-up-to-requires c κs = search needs
 
 returns : tie.Need-returns
 returns c =
@@ -25,4 +16,4 @@ returns c =
 
 pub look-up-spec : {M : Type 1} → statement M
 look-up-spec =
-    tie.close (tie.spec level-requires page-requires on-page-requires last-up-to-requires returns)
+    tie.close (tie.spec (search needs) page-requires (search needs) (search needs) returns)

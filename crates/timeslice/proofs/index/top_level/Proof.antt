@@ -4,14 +4,8 @@ use borrow.Author.Needs.{needs}
 use Rattle.timeslice.proofs.index.top_level.Statement.{statement}
 use Rattle.timeslice.proofs.index.top_level.Tie as tie
 
-entries-requires : tie.Need-entries-requires
-entries-requires c κs = search needs
-
 returns : tie.Need-returns
 returns c = top-ground _ (c .before .entries .ensures) (c .if1 .taken)
-
-entries-requires-2 : tie.Need-entries-requires-2
-entries-requires-2 c κs = search needs
 
 returns-2 : tie.Need-returns-2
 returns-2 c = top-first _ (c .before .before .before .entries .ensures) (c .before .before .if1 .left) (c .before .entries2 .ensures) (c .if2 .taken)
@@ -21,4 +15,4 @@ returns-3 c = top-second _ (c .before .before .before .entries .ensures) (c .bef
 
 pub top-level-spec : {M : Type 1} → statement M
 top-level-spec =
-    tie.close (tie.spec entries-requires returns entries-requires-2 returns-2 returns-3)
+    tie.close (tie.spec (search needs) returns (search needs) returns-2 returns-3)

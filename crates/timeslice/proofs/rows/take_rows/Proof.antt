@@ -21,29 +21,11 @@ abbrev μ-loop : tie.MeasureT-loop
 loop-holds : tie.Need-loop-holds Inv-loop μ-loop
 loop-holds c = (search needs, c .before .before .pre .fits, refl, taken-none _ _ _ _ _ (c .before .before .pre .fits))
 
-take-row-requires : tie.Need-take-row-requires Inv-loop μ-loop
-take-row-requires c κs = search needs
-
-enum-known-more : tie.Need-enum-known-more Inv-loop μ-loop
-enum-known-more c = search needs
-
-enum-told : tie.Need-enum-told Inv-loop μ-loop
-enum-told c = search needs
-
-same-length : tie.Need-same-length Inv-loop μ-loop
-same-length c = search needs
-
 returns : tie.Need-returns Inv-loop μ-loop
 returns c =
     let at-take-row = c .before .before .before .before in
     let at-loop = at-take-row .before .before .before .before in
     slot-many _ _ _ _ _ _ (at-loop .loop .inv .3) (at-take-row .take-row .ensures) (c .enum-told .given .1) _ (omega arith)
-
-add-k : tie.Need-add-k Inv-loop μ-loop
-add-k c = search needs
-
-loop-less : tie.Need-loop-less Inv-loop μ-loop
-loop-less c = search needs
 
 loop-again : tie.Need-loop-again Inv-loop μ-loop
 loop-again c =
@@ -51,9 +33,6 @@ loop-again c =
     let at-loop = at-take-row .before .before .before .before in
     let z = slot-more _ _ _ _ _ _ (at-loop .loop .inv .3) (at-take-row .take-row .ensures) (c .before .more .given .1) in
     (omega arith, taken-fits z, search needs, z)
-
-same-length-2 : tie.Need-same-length-2 Inv-loop μ-loop
-same-length-2 c = search needs
 
 returns-2 : tie.Need-returns-2 Inv-loop μ-loop
 returns-2 c =
@@ -68,13 +47,13 @@ take-rows-spec =
     Inv-loop
     μ-loop
     loop-holds
-    take-row-requires
-    enum-known-more
-    enum-told
-    same-length
+    (search needs)
+    (search needs)
+    (search needs)
+    (search needs)
     returns
-    add-k
-    loop-less
+    (search needs)
+    (search needs)
     loop-again
-    same-length-2
+    (search needs)
     returns-2)

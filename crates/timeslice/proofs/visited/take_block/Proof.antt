@@ -5,24 +5,12 @@ use borrow.Author.Needs.{needs}
 use Rattle.timeslice.proofs.visited.take_block.Statement.{statement}
 use Rattle.timeslice.proofs.visited.take_block.Tie as tie
 
-block-requires : tie.Need-block-requires
-block-requires c κs = search needs
-
-block-word-requires : tie.Need-block-word-requires
-block-word-requires c κs = search needs
-
 returns : tie.Need-returns
 returns c =
     let at-block = c .before .before in
     let start = at-block .before .before .before in
     block-ended _ _ _ _ _ _ _ (part-is (start .pre .0) (at-block .block .ensures)) (c .before .block-word .ensures)
     (c .if1 .taken) (start .pre .1 .1 .fits)
-
-take-rows-requires : tie.Need-take-rows-requires
-take-rows-requires c κs = search needs
-
-same-length : tie.Need-same-length
-same-length c = search needs
 
 returns-2 : tie.Need-returns-2
 returns-2 c =
@@ -37,4 +25,4 @@ returns-2 c =
 pub take-block-spec : {M : Type 1} → statement M
 take-block-spec =
     tie.close
-    (tie.spec block-requires block-word-requires returns take-rows-requires same-length returns-2)
+    (tie.spec (λ c κs. search needs) (search needs) returns (search needs) (search needs) returns-2)

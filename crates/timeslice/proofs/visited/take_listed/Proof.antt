@@ -26,12 +26,6 @@ loop-holds c =
     let room = c .before .before .before .pre .1 .1 in
     (search needs, room .fits, refl, listed-none _ _ _ _ _ _ (room .fits))
 
-mul-take-block : tie.Need-mul-take-block Inv-loop μ-loop
-mul-take-block c = search needs
-
-shared-slice-read-take-block : tie.Need-shared-slice-read-take-block Inv-loop μ-loop
-shared-slice-read-take-block c = search needs
-
 take-block-requires : tie.Need-take-block-requires Inv-loop μ-loop
 take-block-requires c κs =
     let at-loop = c .before .before .before in
@@ -43,15 +37,6 @@ take-block-requires c κs =
       ),
     )
 
-enum-known-more : tie.Need-enum-known-more Inv-loop μ-loop
-enum-known-more c = search needs
-
-enum-told : tie.Need-enum-told Inv-loop μ-loop
-enum-told c = search needs
-
-same-length : tie.Need-same-length Inv-loop μ-loop
-same-length c = search needs
-
 returns : tie.Need-returns Inv-loop μ-loop
 returns c =
     let at-take-block = c .before .before .before .before in
@@ -59,12 +44,6 @@ returns c =
     let at-loop = at-loop-test .before in
     listed-many _ _ _ _ _ _ _ _ (at-loop .loop .inv .3) (at-loop-test .loop-test .taken) (at-take-block .take-block .ensures)
     (c .enum-told .given .1)
-
-add-i : tie.Need-add-i Inv-loop μ-loop
-add-i c = search needs
-
-loop-less : tie.Need-loop-less Inv-loop μ-loop
-loop-less c = search needs
 
 loop-again : tie.Need-loop-again Inv-loop μ-loop
 loop-again c =
@@ -74,9 +53,6 @@ loop-again c =
     let z = listed-more _ _ _ _ _ _ _ _ (at-loop .loop .inv .3) (at-loop-test .loop-test .taken) (at-take-block .take-block .ensures)
     (c .before .more .given .1) in
     (omega (arith, at-loop-test .loop-test .taken), taken-fits z, search needs, z)
-
-same-length-2 : tie.Need-same-length-2 Inv-loop μ-loop
-same-length-2 c = search needs
 
 returns-2 : tie.Need-returns-2 Inv-loop μ-loop
 returns-2 c = listed-all _ _ _ _ _ _ _ _ (c .loop-test .left) (c .before .loop .inv .3)
@@ -88,15 +64,15 @@ take-listed-spec =
     Inv-loop
     μ-loop
     loop-holds
-    mul-take-block
-    shared-slice-read-take-block
+    (search needs)
+    (search needs)
     take-block-requires
-    enum-known-more
-    enum-told
-    same-length
+    (search needs)
+    (search needs)
+    (search needs)
     returns
-    add-i
-    loop-less
+    (search needs)
+    (search needs)
     loop-again
-    same-length-2
+    (search needs)
     returns-2)

@@ -49,26 +49,11 @@ module _ (t : ℕ) where
       let start = c .before .before in
       (inside-numbered (start .pre .1 .1), start .pre .1 .0 .held)
 
-  block-word-requires : visit-lts.Need-block-word-requires (calls t) (visit-at t) visit.Post
-  block-word-requires c κs = search needs
-
-  block-word-requires-2 : visit-lts.Need-block-word-requires-2 (calls t) (visit-at t) visit.Post
-  block-word-requires-2 c κs = search needs
-
   -- ---- the last child
   enter-requires : visit-lts.Need-enter-requires (calls t) (visit-at t) visit.Post
   enter-requires c κs =
       let start = c .before .before .before .before .before .before in
       (start .pre .1 .0, child-room (start .pre .1 .1))
-
-  enum-told : visit-lts.Need-enum-told (calls t) (visit-at t) visit.Post
-  enum-told c = search needs
-
-  enum-known-m : visit-lts.Need-enum-known-m (calls t) (visit-at t) visit.Post
-  enum-known-m c = search needs
-
-  enum-known-m-2 : visit-lts.Need-enum-known-m-2 (calls t) (visit-at t) visit.Post
-  enum-known-m-2 c = search needs
 
   visit-requires : visit-lts.Need-visit-requires (calls t) (visit-at t) visit.Post
   visit-requires c κs =
@@ -131,15 +116,6 @@ module _ (t : ℕ) where
       let start = c .before .before .before .before .before .before .before .before .before .before .before .before in
       (start .pre .1 .0, left (c .before) .room)
 
-  enum-told-2 : visit-lts.Need-enum-told-2 (calls t) (visit-at t) visit.Post
-  enum-told-2 c = search needs
-
-  enum-known-k : visit-lts.Need-enum-known-k (calls t) (visit-at t) visit.Post
-  enum-known-k c = search needs
-
-  enum-known-k-2 : visit-lts.Need-enum-known-k-2 (calls t) (visit-at t) visit.Post
-  enum-known-k-2 c = search needs
-
   visit-requires-2 : visit-lts.Need-visit-requires-2 (calls t) (visit-at t) visit.Post
   visit-requires-2 c κs =
       let at-k2 = c .before .before in
@@ -192,19 +168,19 @@ module _ (t : ℕ) where
 pub +visit-spec : {M : Type 1} → statement M
 +visit-spec = close μ-visit λ t. visit-lts.spec (calls t) (visit-at t) visit.Post
     (block-requires t)
-    (block-word-requires t)
-    (block-word-requires-2 t)
+    (search needs)
+    (search needs)
     (enter-requires t)
-    (enum-told t)
-    (enum-known-m t)
-    (enum-known-m-2 t)
+    (search needs)
+    (search needs)
+    (search needs)
     (visit-requires t)
     (same-length t)
     (returns t)
     (enter-requires-2 t)
-    (enum-told-2 t)
-    (enum-known-k t)
-    (enum-known-k-2 t)
+    (search needs)
+    (search needs)
+    (search needs)
     (visit-requires-2 t)
     (same-length-2 t)
     (returns-2 t)

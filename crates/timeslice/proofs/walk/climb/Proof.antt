@@ -5,46 +5,26 @@ use borrow.Author.Needs.{needs}
 use Rattle.timeslice.proofs.walk.climb.Statement.{statement}
 use Rattle.timeslice.proofs.walk.climb.Tie as tie
 
-block-requires : tie.Need-block-requires
-block-requires c κs = search needs
-
-block-word-requires : tie.Need-block-word-requires
-block-word-requires c κs = search needs
-
 returns : tie.Need-returns
 returns c =
     let at-block = c .before .before in
     let start = at-block .before .before .before .before in
     climb-above _ _ (block-is (start .pre .0) (at-block .block .ensures)) (c .before .block-word .ensures) (c .if1 .taken)
 
-list-block-requires : tie.Need-list-block-requires
-list-block-requires c κs = search needs
-
-enum-known-m : tie.Need-enum-known-m
-enum-known-m c = search needs
-
-enum-told : tie.Need-enum-told
-enum-told c = search needs
-
-same-length : tie.Need-same-length
-same-length c = search needs
-
-same-length-2 : tie.Need-same-length-2
-same-length-2 c = search needs
-
 returns-2 : tie.Need-returns-2
 returns-2 c =
-    let at-list-block = c .before .before .before .before .before .before in
-    let at-if1 = at-list-block .before .before .before in
+    let at-take-rows = c .before .before .before .before in
+    let at-if1 = at-take-rows .before .before .before in
     let at-block-word = at-if1 .before in
     let at-block = at-block-word .before in
     let start = at-block .before .before .before .before in
     climb-full _ _ (block-is (start .pre .0) (at-block .block .ensures)) (at-block-word .block-word .ensures) (at-if1 .if1 .left)
-    (at-list-block .list-block .ensures) (c .enum-told .given .1)
+    (at-take-rows .take-rows .ensures) (c .enum-told .given .1)
 
 neighbour-requires : tie.Need-neighbour-requires
 neighbour-requires c κs =
-    let at-if1 = c .before .before .before .before .before .before .before .before .before .before in
+    let at-take-rows = c .before .before .before .before .before in
+    let at-if1 = at-take-rows .before .before .before in
     let at-block-word = at-if1 .before in
     let at-block = at-block-word .before in
     let start = at-block .before .before .before .before in (
@@ -53,37 +33,35 @@ neighbour-requires c κs =
           (start .pre .1 .0) (at-if1 .if1 .left),
     )
 
-same-length-3 : tie.Need-same-length-3
-same-length-3 c = search needs
-
-same-length-4 : tie.Need-same-length-4
-same-length-4 c = search needs
-
 returns-3 : tie.Need-returns-3
 returns-3 c =
-    let at-m = c .before .before in
-    let at-list-block = at-m .before .before .before .before .before .before in
-    let at-if1 = at-list-block .before .before .before in
+    let at-given = c .before .before .before in
+    let at-take-rows = at-given .before .before .before .before in
+    let at-if1 = at-take-rows .before .before .before in
     let at-block-word = at-if1 .before in
     let at-block = at-block-word .before in
     let start = at-block .before .before .before .before in
     climb-on _ _ (block-is (start .pre .0) (at-block .block .ensures)) (at-block-word .block-word .ensures) (at-if1 .if1 .left)
-    (at-list-block .list-block .ensures) (at-m .m .given .1) (c .neighbour .ensures)
+    (at-take-rows .take-rows .ensures) (at-given .given .given .1) (c .before .neighbour .ensures)
 
 pub climb-spec : {M : Type 1} → statement M
 climb-spec =
     tie.close
     (tie.spec
-    block-requires
-    block-word-requires
+    (λ c κs. search needs)
+    (search needs)
     returns
-    list-block-requires
-    enum-known-m
-    enum-told
-    same-length
-    same-length-2
+    (search needs)
+    (search needs)
+    (search needs)
+    (λ c κs. search needs)
+    (search needs)
+    (search needs)
+    (search needs)
+    (search needs)
     returns-2
     neighbour-requires
-    same-length-3
-    same-length-4
+    (search needs)
+    (search needs)
+    (search needs)
     returns-3)

@@ -6,33 +6,13 @@ use Rattle.timeslice.proofs.walk.enter.Statement.{statement}
 use Rattle.timeslice.proofs.walk.enter.Tie as tie
 
 returns : tie.Need-returns
-returns c =
-    let start = c .before .before .before .before in
-    enter-none (start .pre .1 .some) (c .if2 .taken)
+returns c = enter-none (c .if2 .taken)
 
 returns-2 : tie.Need-returns-2
 returns-2 c = enter-low (c .if2 .left) (c .before .if1 .taken)
 
 returns-3 : tie.Need-returns-3
 returns-3 c = enter-high (c .before .if1 .left) (c .if3 .taken)
-
-mul-list : tie.Need-mul-list
-mul-list c = search needs
-
-slice-write-list : tie.Need-slice-write-list
-slice-write-list c = search needs
-
-block-requires : tie.Need-block-requires
-block-requires c κs = search needs
-
-block-word-requires : tie.Need-block-word-requires
-block-word-requires c κs = search needs
-
-add-t16 : tie.Need-add-t16
-add-t16 c = search needs
-
-same-length : tie.Need-same-length
-same-length c = search needs
 
 returns-4 : tie.Need-returns-4
 returns-4 c =
@@ -42,12 +22,6 @@ returns-4 c =
     let start = at-if1 .before .before .before in
     enter-ended (at-if1 .if1 .left) (at-if3 .if3 .left) (part-is (start .pre .0) (at-block .block .ensures))
     (c .before .block-word .ensures) (c .if4 .taken)
-
-add-t15 : tie.Need-add-t15
-add-t15 c = search needs
-
-same-length-2 : tie.Need-same-length-2
-same-length-2 c = search needs
 
 returns-5 : tie.Need-returns-5
 returns-5 c =
@@ -65,13 +39,13 @@ enter-spec =
     returns
     returns-2
     returns-3
-    mul-list
-    slice-write-list
-    block-requires
-    block-word-requires
-    add-t16
-    same-length
+    (search needs)
+    (search needs)
+    (λ c κs. search needs)
+    (search needs)
+    (search needs)
+    (search needs)
     returns-4
-    add-t15
-    same-length-2
+    (search needs)
+    (search needs)
     returns-5)

@@ -4,18 +4,6 @@ use borrow.Author.Needs.{needs}
 use Rattle.timeslice.proofs.walk.list_visit.Statement.{statement}
 use Rattle.timeslice.proofs.walk.list_visit.Tie as tie
 
-enter-requires : tie.Need-enter-requires
-enter-requires c κs = search needs
-
-enum-told : tie.Need-enum-told
-enum-told c = search needs
-
-enum-known-m : tie.Need-enum-known-m
-enum-known-m c = search needs
-
-enum-known-m-2 : tie.Need-enum-known-m-2
-enum-known-m-2 c = search needs
-
 visit-requires : tie.Need-visit-requires
 visit-requires c κs =
     let at-m2 = c .before .before in
@@ -23,24 +11,15 @@ visit-requires c κs =
     let start = at-enter .before .before .before .before in
     (start .pre .0, inside-room (at-enter .enter .ensures) (start .pre .1) (at-m2 .m2 .given .1) (at-enter .enter .kept .1 .1 .1 .1 .1 .1 .0))
 
-same-length : tie.Need-same-length
-same-length c = search needs
-
 returns : tie.Need-returns
 returns c =
     let at-enter = c .before .before .before .before in
     by-break (at-enter .enter .ensures) (c .enum-told .given .1)
 
-same-length-2 : tie.Need-same-length-2
-same-length-2 c = search needs
-
 returns-2 : tie.Need-returns-2
 returns-2 c =
     let at-enter = c .before .before .before .before .before in
     by-end (at-enter .enter .ensures) (c .before .m .given .1)
-
-same-length-3 : tie.Need-same-length-3
-same-length-3 c = search needs
 
 returns-3 : tie.Need-returns-3
 returns-3 c =
@@ -53,14 +32,14 @@ pub list-visit-spec : {M : Type 1} → statement M
 list-visit-spec =
     tie.close
     (tie.spec
-    enter-requires
-    enum-told
-    enum-known-m
-    enum-known-m-2
+    (λ c κs. search needs)
+    (search needs)
+    (search needs)
+    (search needs)
     visit-requires
-    same-length
+    (search needs)
     returns
-    same-length-2
+    (search needs)
     returns-2
-    same-length-3
+    (search needs)
     returns-3)

@@ -5,15 +5,6 @@ use borrow.Author.Needs.{needs}
 use Rattle.timeslice.proofs.walk.neighbour.Statement.{statement}
 use Rattle.timeslice.proofs.walk.neighbour.Tie as tie
 
-block-requires : tie.Need-block-requires
-block-requires c κs = search needs
-
-block-word-requires : tie.Need-block-word-requires
-block-word-requires c κs = search needs
-
-block-word-requires-2 : tie.Need-block-word-requires-2
-block-word-requires-2 c κs = search needs
-
 returns : tie.Need-returns
 returns c =
     let at-block-word = c .before .before in
@@ -21,9 +12,6 @@ returns c =
     let start = at-block .before .before in
     own-left _ _ (block-is (start .pre .0) (at-block .block .ensures)) (at-block-word .block-word .ensures)
     (c .before .if1 .taken) (c .block-word2 .ensures)
-
-block-word-requires-3 : tie.Need-block-word-requires-3
-block-word-requires-3 c κs = search needs
 
 returns-2 : tie.Need-returns-2
 returns-2 c =
@@ -43,9 +31,6 @@ block-requires-2 c κs =
       start .pre .0 .held,
     )
 
-block-word-requires-4 : tie.Need-block-word-requires-4
-block-word-requires-4 c κs = search needs
-
 returns-3 : tie.Need-returns-3
 returns-3 c =
     let at-if2 = c .before .before in
@@ -62,12 +47,12 @@ pub neighbour-spec : {M : Type 1} → statement M
 neighbour-spec =
     tie.close
     (tie.spec
-    block-requires
-    block-word-requires
-    block-word-requires-2
+    (λ c κs. search needs)
+    (search needs)
+    (search needs)
     returns
-    block-word-requires-3
+    (search needs)
     returns-2
     block-requires-2
-    block-word-requires-4
+    (search needs)
     returns-3)

@@ -1,80 +1,46 @@
 -- `walk::path` meets its contract. The loop's invariant: there is room, and what tells the path from here tells the whole. The measure is the block's number.
-use mathlib.Core.Path.{_≡_, refl, _∙_}
 use native.Mathlib.Omega.{arith}
-use lib.ListN.{length}
 use borrow.Author.Needs.{needs}
 use Rattle.calls.specs.LookBack.{reader}
-use Rattle.timeslice.specs.Told.{Reach}
 use Rattle.timeslice.specs.ToldLaws.{blocks-of}
-use Rattle.timeslice.specs.PathLaws.{Onward, begun, path-ends, path-stops, path-visit-stops, path-turn, reach-numbered, reach-space, visit-room, up-below, rest-room}
+use Rattle.timeslice.specs.PathLaws.{OnPath, begun, path-ends, path-numbered, path-space, path-stops, up-below, visit-room, path-visit-stops, path-turn}
 use Rattle.timeslice.proofs.walk.path.Statement.{statement}
 use Rattle.timeslice.proofs.walk.path.Tie as tie
 
 abbrev Inv-loop : tie.InvT-loop
 Inv-loop store h number t rows₀ list₀ at₀ counts₀ rows list at counts =
-    Reach (h .settings) at counts rows list × (length rows ≡ length rows₀) × (length list ≡ length list₀)
-    × Onward (h .settings) t (reader store) number rows₀ list₀ counts₀ at rows list counts
+    OnPath (h .settings) t (reader store) number rows₀ list₀ counts₀ at rows list counts
 
 abbrev μ-loop : tie.MeasureT-loop
 μ-loop store h number t rows₀ list₀ at₀ counts₀ rows list at counts = at
 
 loop-holds : tie.Need-loop-holds Inv-loop μ-loop
-loop-holds c = (c .before .before .before .pre .1, refl, refl, begun)
+loop-holds c = begun (c .before .before .before .pre .1)
 
 climb-requires : tie.Need-climb-requires Inv-loop μ-loop
 climb-requires c κs =
     let at-loop-test = c .before .before in
     let at-loop = at-loop-test .before in
-    let start = at-loop .before .before .before .before in (
-      start .pre .0,
-      (
-        reach-numbered (at-loop .loop .inv .0) (at-loop-test .loop-test .taken),
-        reach-space (at-loop .loop .inv .0)
-            (at-loop-test .loop-test .taken),
-      ),
-    )
-
-enum-known-step : tie.Need-enum-known-step Inv-loop μ-loop
-enum-known-step c = search needs
-
-enum-told : tie.Need-enum-told Inv-loop μ-loop
-enum-told c = search needs
-
-same-length : tie.Need-same-length Inv-loop μ-loop
-same-length c = search needs
-
-same-length-2 : tie.Need-same-length-2 Inv-loop μ-loop
-same-length-2 c = search needs
+    let start = at-loop .before .before .before .before in
+    let some = at-loop-test .loop-test .taken in
+    (start .pre .0, (path-numbered (at-loop .loop .inv) some, path-space (at-loop .loop .inv) some))
 
 returns : tie.Need-returns Inv-loop μ-loop
 returns c =
     let at-climb = c .before .before .before .before .before .before in
     let at-loop-test = at-climb .before .before .before in
-    let at-loop = at-loop-test .before in
-    path-stops (at-loop .loop .inv .3) (at-loop-test .loop-test .taken) (at-climb .climb .ensures) (c .enum-told .given .1)
+    path-stops (at-loop-test .before .loop .inv) (at-loop-test .loop-test .taken) (at-climb .climb .ensures) (c .enum-told .given .1)
 
 visit-rows-requires : tie.Need-visit-rows-requires Inv-loop μ-loop
 visit-rows-requires c κs =
     let at-step = c .before .before .before in
     let at-climb = at-step .before .before .before .before .before .before in
-    let at-loop = at-climb .before .before .before .before in
-    let start = at-loop .before .before .before .before in (
+    let at-loop-test = at-climb .before .before .before in
+    let start = at-loop-test .before .before .before .before .before in (
       blocks-of (start .pre .0),
-      visit-room (at-loop .loop .inv .0) (at-climb .climb .ensures) (at-step .step .given .1)
+      visit-room (at-loop-test .before .loop .inv) (at-loop-test .loop-test .taken) (at-climb .climb .ensures) (at-step .step .given .1)
           (at-climb .climb .kept .1 .1 .1 .1 .0) (at-climb .climb .kept .1 .1 .1 .1 .1 .0),
     )
-
-enum-known-m : tie.Need-enum-known-m Inv-loop μ-loop
-enum-known-m c = search needs
-
-enum-told-2 : tie.Need-enum-told-2 Inv-loop μ-loop
-enum-told-2 c = search needs
-
-same-length-3 : tie.Need-same-length-3 Inv-loop μ-loop
-same-length-3 c = search needs
-
-same-length-4 : tie.Need-same-length-4 Inv-loop μ-loop
-same-length-4 c = search needs
 
 returns-2 : tie.Need-returns-2 Inv-loop μ-loop
 returns-2 c =
@@ -82,16 +48,15 @@ returns-2 c =
     let at-step = at-visit .before .before .before .before in
     let at-climb = at-step .before .before .before .before .before .before in
     let at-loop-test = at-climb .before .before .before in
-    let at-loop = at-loop-test .before in
-    path-visit-stops (at-loop .loop .inv .3) (at-loop-test .loop-test .taken) (at-climb .climb .ensures)
-    (at-step .step .given .1) (at-visit .visit-rows .ensures) (c .enum-told2 .given .1)
+    path-visit-stops (at-loop-test .before .loop .inv) (at-loop-test .loop-test .taken) (at-climb .climb .ensures) (at-step .step .given .1)
+    (at-climb .climb .kept .1 .1 .1 .1 .0) (at-climb .climb .kept .1 .1 .1 .1 .1 .0) (at-visit .visit-rows .ensures) (c .enum-told2 .given .1)
 
 loop-less : tie.Need-loop-less Inv-loop μ-loop
 loop-less c =
     let at-step = c .before .before .before .before .before .before .before .before .before .before .before in
     let at-climb = at-step .before .before .before .before .before .before in
-    let at-loop = at-climb .before .before .before .before in
-    up-below (at-loop .loop .inv .0) (at-climb .climb .ensures) (at-step .step .given .1)
+    let at-loop-test = at-climb .before .before .before in
+    up-below (at-loop-test .before .loop .inv) (at-loop-test .loop-test .taken) (at-climb .climb .ensures) (at-step .step .given .1)
 
 loop-again : tie.Need-loop-again Inv-loop μ-loop
 loop-again c =
@@ -99,24 +64,12 @@ loop-again c =
     let at-step = at-visit .before .before .before .before in
     let at-climb = at-step .before .before .before .before .before .before in
     let at-loop-test = at-climb .before .before .before in
-    let at-loop = at-loop-test .before in (
-      rest-room (at-loop .loop .inv .0) (at-climb .climb .ensures) (at-step .step .given .1) (at-climb .climb .kept .1 .1 .1 .1 .0)
-          (at-climb .climb .kept .1 .1 .1 .1 .1 .0) (at-visit .visit-rows .ensures) (c .before .m .given .1)
-          (at-visit .visit-rows .kept .1 .1 .1 .1 .1 .1 .0) (at-visit .visit-rows .kept .1 .1 .1 .1 .1 .1 .1 .0),
-      at-visit .visit-rows .kept .1 .1 .1 .1 .1 .1 .0 ∙ at-climb .climb .kept .1 .1 .1 .1 .0 ∙ at-loop .loop .inv .1,
-      at-visit .visit-rows .kept .1 .1 .1 .1 .1 .1 .1 .0 ∙ at-climb .climb .kept .1 .1 .1 .1 .1 .0 ∙ at-loop .loop .inv .2,
-      path-turn (at-loop .loop .inv .3) (at-loop-test .loop-test .taken) (at-climb .climb .ensures) (at-step .step .given .1)
-          (at-visit .visit-rows .ensures) (c .before .m .given .1),
-    )
-
-same-length-5 : tie.Need-same-length-5 Inv-loop μ-loop
-same-length-5 c = search needs
-
-same-length-6 : tie.Need-same-length-6 Inv-loop μ-loop
-same-length-6 c = search needs
+    path-turn (at-loop-test .before .loop .inv) (at-loop-test .loop-test .taken) (at-climb .climb .ensures) (at-step .step .given .1)
+    (at-climb .climb .kept .1 .1 .1 .1 .0) (at-climb .climb .kept .1 .1 .1 .1 .1 .0) (at-visit .visit-rows .ensures) (c .before .m .given .1)
+    (at-visit .visit-rows .kept .1 .1 .1 .1 .1 .1 .0) (at-visit .visit-rows .kept .1 .1 .1 .1 .1 .1 .1 .0)
 
 returns-3 : tie.Need-returns-3 Inv-loop μ-loop
-returns-3 c = path-ends (c .before .loop .inv .3) (omega arith) (c .before .loop .inv .0 .fits)
+returns-3 c = path-ends (c .before .loop .inv) (omega arith)
 
 pub path-spec : {M : Type 1} → statement M
 path-spec =
@@ -126,19 +79,19 @@ path-spec =
     μ-loop
     loop-holds
     climb-requires
-    enum-known-step
-    enum-told
-    same-length
-    same-length-2
+    (search needs)
+    (search needs)
+    (search needs)
+    (search needs)
     returns
     visit-rows-requires
-    enum-known-m
-    enum-told-2
-    same-length-3
-    same-length-4
+    (search needs)
+    (search needs)
+    (search needs)
+    (search needs)
     returns-2
     loop-less
     loop-again
-    same-length-5
-    same-length-6
+    (search needs)
+    (search needs)
     returns-3)

@@ -1,124 +1,69 @@
 -- `walk::visit_rows` meets its contract: what is listed is a part of the list, and its rows are the visit's.
 use native.Mathlib.Omega.{arith}
-use Rattle.timeslice.specs.ListedLaws.{gap-list, gap-rows, visit-stops, part-start, part-end, part-numbered, visit-many, visit-whole}
 use borrow.Author.Needs.{needs}
+use Rattle.calls.specs.LookBack.{reader}
+use Rattle.timeslice.specs.ListedLaws.{gap-list, gap-rows, visit-stops, ListedPart, visit-part}
 use Rattle.timeslice.proofs.walk.visit_rows.Statement.{statement}
 use Rattle.timeslice.proofs.walk.visit_rows.Tie as tie
 
 list-visit-requires : tie.Need-list-visit-requires
 list-visit-requires c κs =
     let start = c .before .before .before .before in
-    let room = start .pre .1 in
-    (start .pre .0, gap-list room)
-
-same-length : tie.Need-same-length
-same-length c = search needs
+    (start .pre .0, gap-list (start .pre .1))
 
 returns : tie.Need-returns
 returns c =
     let at-list-visit = c .before .before .before in
     let start = at-list-visit .before .before .before .before .before in
-    let room = start .pre .1 in
-    visit-stops room (at-list-visit .list-visit .ensures) (c .if1 .taken)
+    visit-stops (start .pre .1) (at-list-visit .list-visit .ensures) (c .if1 .taken)
 
-cast-first : tie.Need-cast-first
-cast-first c = search needs
-
-cast-end : tie.Need-cast-end
-cast-end c = search needs
-
-mul-take-listed : tie.Need-mul-take-listed
-mul-take-listed c = search needs
-
-sub-take-listed : tie.Need-sub-take-listed
-sub-take-listed c =
-    let at-list-visit = c .before .before .before .before in
+-- what was listed
+part : (c : tie.Else1)
+    → let at-list-visit = c .before .before .before in
+    let a = at-list-visit .before .before .before .before .before .args in
+    ListedPart (a .s) (a .t) (reader (a .store .now)) (a .lower) (a .upper) (a .number) (a .rows .now) (a .list .now) (a .n)
+    (at-list-visit .list-visit .result) (at-list-visit .list-visit .last .1 .1 .1 .1 .1 .1 .0)
+part c =
+    let at-list-visit = c .before .before .before in
     let start = at-list-visit .before .before .before .before .before in
-    let room = start .pre .1 in
-    part-start room (at-list-visit .list-visit .ensures) (omega (arith, c .before .if1 .left))
-
-part-take-listed-start : tie.Need-part-take-listed-start
-part-take-listed-start c =
-    let at-if1 = c .before .before in
-    let at-list-visit = at-if1 .before .before .before in
-    let start = at-list-visit .before .before .before .before .before in
-    let room = start .pre .1 in
-    part-start room (at-list-visit .list-visit .ensures) (omega (arith, at-if1 .if1 .left))
-
-part-take-listed-end : tie.Need-part-take-listed-end
-part-take-listed-end c =
-    let at-if1 = c .before .before in
-    let at-list-visit = at-if1 .before .before .before in
-    let start = at-list-visit .before .before .before .before .before in
-    let room = start .pre .1 in
-    part-end room (at-list-visit .list-visit .ensures) (omega (arith, at-if1 .if1 .left))
+    visit-part (start .pre .1) (at-list-visit .list-visit .ensures) (omega (arith, c .if1 .left))
     (at-list-visit .list-visit .kept .1 .1 .1 .1 .1 .1 .0)
 
 take-listed-requires : tie.Need-take-listed-requires
 take-listed-requires c κs =
     let at-if1 = c .before .before .before .before in
-    let at-list-visit = at-if1 .before .before .before in
-    let start = at-list-visit .before .before .before .before .before in
-    let room = start .pre .1 in
-    (start .pre .0, (part-numbered room (at-list-visit .list-visit .ensures) (omega (arith, at-if1 .if1 .left)), gap-rows room))
-
-enum-known-given : tie.Need-enum-known-given
-enum-known-given c = search needs
-
-enum-told : tie.Need-enum-told
-enum-told c = search needs
-
-same-length-2 : tie.Need-same-length-2
-same-length-2 c = search needs
-
-same-length-3 : tie.Need-same-length-3
-same-length-3 c = search needs
+    let start = at-if1 .before .before .before .before .before .before .before .before in
+    (start .pre .0, (part at-if1 .numbered, gap-rows (start .pre .1)))
 
 returns-2 : tie.Need-returns-2
 returns-2 c =
     let at-take-listed = c .before .before .before .before in
-    let at-if1 = at-take-listed .before .before .before .before .before in
-    let at-list-visit = at-if1 .before .before .before in
-    let start = at-list-visit .before .before .before .before .before in
-    let room = start .pre .1 in
-    visit-many room (at-list-visit .list-visit .ensures) (omega (arith, at-if1 .if1 .left))
-    (at-take-listed .take-listed .ensures) (c .enum-told .given .1)
-
-same-length-4 : tie.Need-same-length-4
-same-length-4 c = search needs
-
-same-length-5 : tie.Need-same-length-5
-same-length-5 c = search needs
+    part (at-take-listed .before .before .before .before .before) .many (at-take-listed .take-listed .ensures) (c .enum-told .given .1)
 
 returns-3 : tie.Need-returns-3
 returns-3 c =
     let at-take-listed = c .before .before .before .before .before in
-    let at-if1 = at-take-listed .before .before .before .before .before in
-    let at-list-visit = at-if1 .before .before .before in
-    let start = at-list-visit .before .before .before .before .before in
-    let room = start .pre .1 in
-    visit-whole room (at-list-visit .list-visit .ensures) (omega (arith, at-if1 .if1 .left))
-    (at-take-listed .take-listed .ensures) (c .before .given .given .1)
+    part (at-take-listed .before .before .before .before .before) .whole (at-take-listed .take-listed .ensures) (c .before .given .given .1)
 
 pub visit-rows-spec : {M : Type 1} → statement M
 visit-rows-spec =
     tie.close
     (tie.spec
     list-visit-requires
-    same-length
+    (search needs)
     returns
-    cast-first
-    cast-end
-    mul-take-listed
-    sub-take-listed
-    part-take-listed-start
-    part-take-listed-end
+    (search needs)
+    (search needs)
+    (search needs)
+    (λ c. part (c .before) .start)
+    (λ c. part (c .before .before) .start)
+    (λ c. part (c .before .before) .end)
     take-listed-requires
-    enum-known-given
-    enum-told
-    same-length-2
-    same-length-3
+    (search needs)
+    (search needs)
+    (search needs)
+    (search needs)
     returns-2
-    same-length-4
-    same-length-5
+    (search needs)
+    (search needs)
     returns-3)

@@ -4,21 +4,6 @@ use Rattle.console_run.specs.FeedLaws.{last-taken, last-quiet}
 use Rattle.console_run.proofs.feed.Console.last.Statement.{statement}
 use Rattle.console_run.proofs.feed.Console.last.Tie as tie
 
-left-over-requires : tie.Need-left-over-requires
-left-over-requires c κs = search needs
-
-take-requires : tie.Need-take-requires
-take-requires c κs = search needs
-
-same-length : tie.Need-same-length
-same-length c = search needs
-
-same-length-2 : tie.Need-same-length-2
-same-length-2 c = search needs
-
-same-length-3 : tie.Need-same-length-3
-same-length-3 c = search needs
-
 returns : tie.Need-returns
 returns c =
     let at-take = c .before .before .before .before .before .before in
@@ -26,16 +11,17 @@ returns c =
     last-taken _ _ _ (at-if1 .before .left-over .ensures) (at-if1 .if1 .taken) (at-take .take .ensures)
 
 returns-2 : tie.Need-returns-2
-returns-2 c = last-quiet _ _ _ (c .before .left-over .ensures) (c .if1 .left)
+returns-2 c = last-quiet _ _ _ (c .before .before .left-over .ensures) (c .before .if1 .left) (c .goes-on .ensures)
 
 pub last-spec : {M : Type 1} → statement M
 last-spec =
     tie.close
     (tie.spec
-    left-over-requires
-    take-requires
-    same-length
-    same-length-2
-    same-length-3
+    (search needs)
+    (search needs)
+    (search needs)
+    (search needs)
+    (search needs)
     returns
+    (search needs)
     returns-2)

@@ -13,11 +13,8 @@ returns-2 c = fed-skip _ _ _ (c .before .if1 .left) (c .if2 .taken)
 element-write-line : tie.Need-element-write-line
 element-write-line c = search needs
 
-add-t10 : tie.Need-add-t10
-add-t10 c = search needs
-
 returns-3 : tie.Need-returns-3
 returns-3 c = fed-store _ _ _ (c .before .if1 .left) (c .if2 .left)
 
 pub feed-spec : {M : Type 1} → statement M
-feed-spec = tie.close (tie.spec returns returns-2 element-write-line add-t10 returns-3)
+feed-spec = tie.close (tie.spec returns returns-2 element-write-line (search needs) returns-3)

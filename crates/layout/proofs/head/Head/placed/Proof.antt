@@ -11,9 +11,6 @@ returns : tie.Need-returns
 unfolding placed
 returns c = simp (eq-eqb _ _ (c .if1 .taken))
 
-sub-result : tie.Need-sub-result
-sub-result c = search needs
-
 mul-result : tie.Need-mul-result
 mul-result c = omega (arith, placed-most (c .before .before .before .before .pre))
 
@@ -25,4 +22,4 @@ unfolding placed
 returns-2 c = simp (ne-eqb _ _ (c .before .before .before .if1 .left))
 
 pub placed-spec : {M : Type 1} → statement M
-placed-spec = tie.close (tie.spec returns sub-result mul-result add-result returns-2)
+placed-spec = tie.close (tie.spec returns (search needs) mul-result add-result returns-2)

@@ -6,18 +6,9 @@ use Rattle.layout.specs.Sizes.{blockLen}
 use Rattle.layout.proofs.settings.Settings.block_words.Statement.{statement}
 use Rattle.layout.proofs.settings.Settings.block_words.Tie as tie
 
-cast-result : tie.Need-cast-result
-cast-result c = search needs
-
-mul-result : tie.Need-mul-result
-mul-result c = search needs
-
-add-result : tie.Need-add-result
-add-result c = search needs
-
 returns : tie.Need-returns
 unfolding blockLen
 returns c = record { is = refl; some = omega arith; small = omega arith }
 
 pub block-words-spec : {M : Type 1} → statement M
-block-words-spec = tie.close (tie.spec cast-result mul-result add-result returns)
+block-words-spec = tie.close (tie.spec (search needs) (search needs) (search needs) returns)

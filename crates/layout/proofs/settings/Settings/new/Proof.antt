@@ -5,9 +5,6 @@ use Rattle.layout.specs.Settings.{settingsAnswer}
 use Rattle.layout.proofs.settings.Settings.new.Statement.{statement}
 use Rattle.layout.proofs.settings.Settings.new.Tie as tie
 
-within-requires : tie.Need-within-requires
-within-requires c κs = search needs
-
 returns : tie.Need-returns
 unfolding settingsAnswer
 returns c = rw (sym (c .before .within .ensures) ∙ c .if1 .taken)
@@ -17,4 +14,4 @@ unfolding settingsAnswer
 returns-2 c = rw (sym (c .before .within .ensures) ∙ c .if1 .left)
 
 pub new-spec : {M : Type 1} → statement M
-new-spec = tie.close (tie.spec within-requires returns returns-2)
+new-spec = tie.close (tie.spec (search needs) returns returns-2)

@@ -35,14 +35,4 @@ returns-9 c = sym (within-limits _ (search needs))
 
 pub within-spec : {M : Type 1} → statement M
 within-spec =
-    tie.close
-    (tie.spec
-    returns
-    returns-2
-    returns-3
-    returns-4
-    returns-5
-    returns-6
-    returns-7
-    returns-8
-    returns-9)
+    tie.close (tie.spec returns returns-2 returns-3 returns-4 returns-5 returns-6 returns-7 returns-8 returns-9)

@@ -6,18 +6,6 @@ use Rattle.layout.specs.Sizes.{layoutLen}
 use Rattle.layout.proofs.settings.Settings.words.Statement.{statement}
 use Rattle.layout.proofs.settings.Settings.words.Tie as tie
 
-block-words-requires : tie.Need-block-words-requires
-block-words-requires c κs = search needs
-
-cast-result : tie.Need-cast-result
-cast-result c = search needs
-
-add-result : tie.Need-add-result
-add-result c = search needs
-
-cast-result-2 : tie.Need-cast-result-2
-cast-result-2 c = search needs
-
 mul-result : tie.Need-mul-result
 mul-result c = omega (arith, mul-le-mul (c .before .before .before .pre .blocks) (c .before .before .block-words .ensures .small))
 
@@ -30,12 +18,4 @@ returns c = record { is = cc; small = omega (arith, mul-le-mul (c .before .befor
 
 pub words-spec : {M : Type 1} → statement M
 words-spec =
-    tie.close
-    (tie.spec
-    block-words-requires
-    cast-result
-    add-result
-    cast-result-2
-    mul-result
-    add-result-2
-    returns)
+    tie.close (tie.spec (search needs) (search needs) (search needs) (search needs) mul-result add-result-2 returns)

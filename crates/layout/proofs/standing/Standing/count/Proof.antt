@@ -8,22 +8,10 @@ use Rattle.base.specs.Slots.{slots-count}
 use Rattle.layout.proofs.standing.Standing.count.Statement.{statement}
 use Rattle.layout.proofs.standing.Standing.count.Tie as tie
 
-cast-result : tie.Need-cast-result
-cast-result c = search needs
-
-mul-result : tie.Need-mul-result
-mul-result c = search needs
-
-cast-result-2 : tie.Need-cast-result-2
-cast-result-2 c = search needs
-
-add-result : tie.Need-add-result
-add-result c = search needs
-
 returns : tie.Need-returns
 returns c =
     let b = c .before .before .args .self in
     ones-cat 32 (b .high) (b .low) (omega arith) ∙ add-comm _ _ ∙ sym (slots-count (b .low) (b .high) (omega arith) (omega arith))
 
 pub count-spec : {M : Type 1} → statement M
-count-spec = tie.close (tie.spec cast-result mul-result cast-result-2 add-result returns)
+count-spec = tie.close (tie.spec (search needs) (search needs) (search needs) (search needs) returns)

@@ -6,19 +6,13 @@ use Rattle.layout.specs.Standing.{stands}
 use Rattle.layout.proofs.standing.Standing.has.Statement.{statement}
 use Rattle.layout.proofs.standing.Standing.has.Tie as tie
 
-bit-requires : tie.Need-bit-requires
-bit-requires c κs = search needs
-
 returns : tie.Need-returns
 unfolding stands
 returns c = c .bit .ensures ∙ simp (lt-ltb _ _ (c .before .if1 .taken))
-
-bit-requires-2 : tie.Need-bit-requires-2
-bit-requires-2 c κs = search needs
 
 returns-2 : tie.Need-returns-2
 unfolding stands
 returns-2 c = c .bit2 .ensures ∙ simp (le-ltb _ _ (c .before .if1 .left))
 
 pub has-spec : {M : Type 1} → statement M
-has-spec = tie.close (tie.spec bit-requires returns bit-requires-2 returns-2)
+has-spec = tie.close (tie.spec (search needs) returns (search needs) returns-2)

@@ -5,19 +5,13 @@ use Rattle.layout.specs.Standing.{otherSlots}
 use Rattle.layout.proofs.standing.Standing.rest.Statement.{statement}
 use Rattle.layout.proofs.standing.Standing.rest.Tie as tie
 
-lower-off-requires : tie.Need-lower-off-requires
-lower-off-requires c κs = search needs
-
 returns : tie.Need-returns
 unfolding otherSlots
 returns c = simp (c .lower-off .ensures, eq-eqb _ _ (c .before .if1 .taken))
-
-lower-off-requires-2 : tie.Need-lower-off-requires-2
-lower-off-requires-2 c κs = search needs
 
 returns-2 : tie.Need-returns-2
 unfolding otherSlots
 returns-2 c = simp (c .lower-off2 .ensures, ne-eqb _ _ (c .before .if1 .left))
 
 pub rest-spec : {M : Type 1} → statement M
-rest-spec = tie.close (tie.spec lower-off-requires returns lower-off-requires-2 returns-2)
+rest-spec = tie.close (tie.spec (search needs) returns (search needs) returns-2)

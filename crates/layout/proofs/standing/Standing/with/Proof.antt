@@ -5,9 +5,6 @@ use Rattle.layout.specs.Standing.{raised}
 use Rattle.layout.proofs.standing.Standing.with.Statement.{statement}
 use Rattle.layout.proofs.standing.Standing.with.Tie as tie
 
-bit-on-requires : tie.Need-bit-on-requires
-bit-on-requires c κs = search needs
-
 returns : tie.Need-returns
 unfolding raised
 returns c = simp (c .bit-on .ensures, lt-ltb _ _ (c .before .if1 .taken))
@@ -20,4 +17,4 @@ unfolding raised
 returns-2 c = simp (c .bit-on2 .ensures, le-ltb _ _ (c .before .if1 .left))
 
 pub with-spec : {M : Type 1} → statement M
-with-spec = tie.close (tie.spec bit-on-requires returns bit-on-requires-2 returns-2)
+with-spec = tie.close (tie.spec (search needs) returns bit-on-requires-2 returns-2)

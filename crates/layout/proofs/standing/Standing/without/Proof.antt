@@ -5,19 +5,13 @@ use Rattle.layout.specs.Standing.{lowered}
 use Rattle.layout.proofs.standing.Standing.without.Statement.{statement}
 use Rattle.layout.proofs.standing.Standing.without.Tie as tie
 
-bit-off-requires : tie.Need-bit-off-requires
-bit-off-requires c κs = search needs
-
 returns : tie.Need-returns
 unfolding lowered
 returns c = simp (c .bit-off .ensures, lt-ltb _ _ (c .before .if1 .taken))
-
-bit-off-requires-2 : tie.Need-bit-off-requires-2
-bit-off-requires-2 c κs = search needs
 
 returns-2 : tie.Need-returns-2
 unfolding lowered
 returns-2 c = simp (c .bit-off2 .ensures, le-ltb _ _ (c .before .if1 .left))
 
 pub without-spec : {M : Type 1} → statement M
-without-spec = tie.close (tie.spec bit-off-requires returns bit-off-requires-2 returns-2)
+without-spec = tie.close (tie.spec (search needs) returns (search needs) returns-2)

@@ -3,22 +3,12 @@ use borrow.Author.Needs.{needs}
 use Rattle.timeslice.proofs.index.PathStart.passing.Statement.{statement}
 use Rattle.timeslice.proofs.index.PathStart.passing.Tie as tie
 
-add-t4 : tie.Need-add-t4
-add-t4 c = search needs
-
-passed-on-requires : tie.Need-passed-on-requires
-passed-on-requires c κs = search needs
-
-passed-on-requires-2 : tie.Need-passed-on-requires-2
-passed-on-requires-2 c κs = search needs
-
-passed-on-requires-3 : tie.Need-passed-on-requires-3
-passed-on-requires-3 c κs = search needs
-
 returns : tie.Need-returns
-returns c = cc
+returns c =
+    let at-second = c .before in
+    rw (at-second .before .passed-on .ensures, at-second .passed-on2 .ensures, c .passed-on3 .ensures)
 
 pub passing-spec : {M : Type 1} → statement M
 passing-spec =
     tie.close
-    (tie.spec add-t4 passed-on-requires passed-on-requires-2 passed-on-requires-3 returns)
+    (tie.spec (search needs) (search needs) (search needs) (search needs) returns)
