@@ -5,7 +5,7 @@ use console_text::gather::Gather;
 use console_text::gather::LINE_MOST;
 use console_text::parse;
 use console_text::parse::Line;
-use console_text::parse::SettingsLine;
+use console_text::parse::Numbers;
 use layout::settings::Settings;
 ghost use mathlib.Core.Path.{_≡_};
 ghost use Prim.Native.Nat.{min};
@@ -125,14 +125,14 @@ fn asked_of(line: Line) -> LineAsks
 }
 
 // What the settings ask for: to start with them, at time 0.
-fn start_of(line: SettingsLine) -> LineAsks
+fn start_of(line: Numbers) -> LineAsks
     ensures { λ r. ⌜ r ≡ startOf line ⌝ }
 {
     match line {
-        SettingsLine::Values(b, q, blocks, tags) => {
+        Numbers::Four(b, q, blocks, tags) => {
             LineAsks::Call(0, Call::Start(Settings::asked(b, q, blocks, tags)))
         }
-        SettingsLine::Bad => LineAsks::Bad,
+        Numbers::Bad => LineAsks::Bad,
     }
 }
 
