@@ -160,7 +160,8 @@ fn called(
 
 fn settings(text: &[u8], store: &mut [u32], rows: &mut [u32], list: &mut [u32]) -> Turn
     ensures { λ r. ⌜ does r (now (store .exit)) (now (rows .exit)) (now (list .exit))
-        ≡ settingsDo (settingsLine (now (text .entry))) (lent (now (store .entry)) (now (rows .entry)) (now (list .entry))) ⌝ }
+        ≡ settingsDo (settingsLine (now (text .entry)))
+        (lent (now (store .entry)) (now (rows .entry)) (now (list .entry))) ⌝ }
 {
     let asked = start_of(parse::parse_settings(text));
     called(
@@ -176,7 +177,8 @@ fn settings(text: &[u8], store: &mut [u32], rows: &mut [u32], list: &mut [u32]) 
 
 fn change(text: &[u8], store: &mut [u32], rows: &mut [u32], list: &mut [u32]) -> Turn
     ensures { λ r. ⌜ does r (now (store .exit)) (now (rows .exit)) (now (list .exit))
-        ≡ changeDo (askedOf (changeLine (now (text .entry)))) (lent (now (store .entry)) (now (rows .entry)) (now (list .entry))) ⌝ }
+        ≡ changeDo (askedOf (changeLine (now (text .entry))))
+        (lent (now (store .entry)) (now (rows .entry)) (now (list .entry))) ⌝ }
 {
     let asked = asked_of(parse::parse_change(text));
     called(

@@ -53,13 +53,15 @@ pub enum Line {
 }
 
 pub fn is_settings_names(line: &[u8]) -> bool
-    ensures { λ r. ⌜ (r ≡ true → now (line .entry) ≡ settingsNames) × (now (line .entry) ≡ settingsNames → r ≡ true) ⌝ }
+    ensures { λ r. ⌜ (r ≡ true → now (line .entry) ≡ settingsNames)
+        × (now (line .entry) ≡ settingsNames → r ≡ true) ⌝ }
 {
     check::same(line, b"block,useful,blocks,tags")
 }
 
 pub fn is_change_names(line: &[u8]) -> bool
-    ensures { λ r. ⌜ (r ≡ true → now (line .entry) ≡ changeNames) × (now (line .entry) ≡ changeNames → r ≡ true) ⌝ }
+    ensures { λ r. ⌜ (r ≡ true → now (line .entry) ≡ changeNames)
+        × (now (line .entry) ≡ changeNames → r ≡ true) ⌝ }
 {
     check::same(line, b"time,tag,sign,value")
 }
