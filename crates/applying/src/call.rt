@@ -50,7 +50,8 @@ fn shown(l: SliceAnswer) -> Answer
 
 // One call. Only a look-back touches the two buffers.
 pub fn apply(store: &mut [u32], call: Call, rows: &mut [u32], list: &mut [u32]) -> Answer
-    ensures { λ r. ⌜ Applied (now (store .entry)) call (now (rows .entry)) (now (list .entry)) r (now (store .exit)) (now (rows .exit)) (now (list .exit)) ⌝ }
+    ensures { λ r. ⌜ Applied (now (store .entry)) call (now (rows .entry))
+        (now (list .entry)) r (now (store .exit)) (now (rows .exit)) (now (list .exit)) ⌝ }
 {
     match call {
         Call::Start(asked) => changed(changes::start(store, asked)),

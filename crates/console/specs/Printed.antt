@@ -23,7 +23,7 @@ use Rattle.console_text.specs.Decimal.{digitsBefore, decimal, readOn, spareZero
 use Rattle.console_text.specs.Reading.{isBelow, sizeOf, tenthsOf, signBytes, knBytes}
 use Rattle.console_text.specs.Output.{outputNames, lineStart, line, rowLine, sumLine, noLine, badLine}
 use Rattle.console_text.specs.Fields.{ontoFirst, split, four}
-use Rattle.console_text.specs.Input.{settingsNames, changeNames, given, settingsOf, settingsLine, bySign, signOf, changeOf, changeLine}
+use Rattle.console_text.specs.Input.{settingsNames, changeNames, signOf, numberIn, numbersOf, numbersIn, settingsLine, bySign, changeOf, changeLine}
 use Rattle.console_text.specs.Lines.{textOf, ended, linesOf}
 use Rattle.console_run.specs.Console.{sameBytes, namesDo, called, settingsDo, changeDo, textDoes, lineDoes, rowLines, saidLines, joined, consoleFrom, blank, consoleOutput}
 
@@ -43,5 +43,5 @@ pub record PrintedRuns : Type 0 where
       ≡ bytes "time,kind,first,second\n0,bad,4,0\n0,sum,0,0\n"
 
 pub printed-runs : PrintedRuns
-unfolding bitAt withBit withoutBit bitsFrom slotsOf blockLen layoutLen each inLimits headOf headWords withHead cleared badHead placed storeCursor stands raised lowered blockPart levelPart pagePart blockWord slotWord readWord writeWord wipeBlock over enterTime openBlock unlink endRecord standing putRecord moveRecord closeFull judgeFull roll makeRoom place replace close judge clearTag finish setProgram clearProgram updateProgram advanceProgram lastUpTo entries topLevel lookUp descend search rowOf rowsOf neighbour visit path look badPlace badBlock unsoundSet unsoundClear blocksOut start set clear update advance reader lookAt lookBack bytes digitsBefore decimal readOn spareZero numberOf wordOf negated readingOf isBelow sizeOf tenthsOf signBytes knBytes outputNames lineStart line rowLine sumLine noLine badLine ontoFirst split four settingsNames changeNames given settingsOf settingsLine bySign signOf changeOf changeLine textOf ended linesOf sameBytes namesDo called settingsDo changeDo textDoes lineDoes rowLines saidLines joined consoleFrom blank consoleOutput
+unfolding bitAt withBit withoutBit bitsFrom slotsOf blockLen layoutLen each inLimits headOf headWords withHead cleared badHead placed storeCursor stands raised lowered blockPart levelPart pagePart blockWord slotWord readWord writeWord wipeBlock over enterTime openBlock unlink endRecord standing putRecord moveRecord closeFull judgeFull roll makeRoom place replace close judge clearTag finish setProgram clearProgram updateProgram advanceProgram lastUpTo entries topLevel lookUp descend search rowOf rowsOf neighbour visit path look badPlace badBlock unsoundSet unsoundClear blocksOut start set clear update advance reader lookAt lookBack bytes digitsBefore decimal readOn spareZero numberOf wordOf negated readingOf isBelow sizeOf tenthsOf signBytes knBytes outputNames lineStart line rowLine sumLine noLine badLine ontoFirst split four settingsNames changeNames signOf numberIn numbersOf numbersIn settingsLine bySign changeOf changeLine textOf ended linesOf sameBytes namesDo called settingsDo changeDo textDoes lineDoes rowLines saidLines joined consoleFrom blank consoleOutput
 printed-runs = record { whole = refl; empty = refl; no-settings = refl; no-names = refl; refused = refl; goes-on = refl }

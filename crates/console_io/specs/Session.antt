@@ -8,7 +8,7 @@ use lib.IntN.{ℤ}
 use lib.ListN.{length, take}
 use Rattle.io.specs.Counts.{clamped}
 use Rattle.console_run.specs.Console.{joined, consoleOutput}
-use Rattle.console_run.specs.Feed.{countMost, State, state, afterByte, fed, fedAll, stepLines, fedLines}
+use Rattle.console_run.specs.Feed.{countMost, ConsoleState, state, afterByte, fed, fedAll, stepLines, fedLines}
 use Rattle.console_io.specs.declared.sink.Sink.{Sink}
 use Rattle.console_io.specs.declared.Session.{Session}
 use Rattle.console_io.specs.declared.Part.{Part}
@@ -17,7 +17,7 @@ use Rattle.console_io.specs.Sinks.{Sent}
 
 -- A session with the line's buffer and the lent words: the console's state, and where its lines go.
 pub record Running : Type 0 where
-  pub state : State
+  pub state : ConsoleState
   pub sink : Sink
 
 abbrev pub running : Session → List ℕ → List ℕ → List ℕ → List ℕ → Running

@@ -15,7 +15,7 @@ use Rattle.console_run.specs.declared.feed.Console.{Console}
 use Rattle.console_run.specs.declared.feed.Step.{Step}
 use Rattle.console_run.specs.declared.turn.Said.{Said}
 use Rattle.console_run.specs.Console.{Lent, saidLines, missing, storeLen, rowsLen, listLen, blank}
-use Rattle.console_run.specs.Feed.{stepped, begun, fed, lastTaken, isOver, State, stateOf, state, finishLines, runLines}
+use Rattle.console_run.specs.Feed.{stepped, begun, fed, lastTaken, isOver, ConsoleState, stateOf, state, finishLines, runLines}
 use Rattle.console_run.specs.FeedLaws.{all-none, all-over, all-more, in-chunks, lines-none, lines-over, lines-more, prints-output}
 use Rattle.console_run.specs.SaidLaws.{lines-in-chunks}
 use Rattle.console_io.specs.declared.sink.Sink.{Sink}
@@ -113,7 +113,7 @@ unfolding finishLines
 finished c line words e s f t = rw (← e) (sent-on s (rw f at t))
 
 -- The names line, the bytes read, and the end of the input.
-pub ran : {a b c d : Sink} {console : Console} {line store rows list : List ℕ} {t : State} → Emitted outputNames a b
+pub ran : {a b c d : Sink} {console : Console} {line store rows list : List ℕ} {t : ConsoleState} → Emitted outputNames a b
     → ReadAll (record { state = state console line store rows list; sink = b }) (record { state = t; sink = c }) → Sent c (finishLines t) d
     → console ≡ begun → length line ≡ lineMost → store ≡ replicate storeLen 0 → rows ≡ replicate rowsLen 0
     → list ≡ replicate listLen 0 → Ran a d

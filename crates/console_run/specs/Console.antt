@@ -13,8 +13,8 @@ use Rattle.applying.specs.declared.call.Call.the-variants as call
 use Rattle.applying.specs.declared.call.Answer.{Answer}
 use Rattle.applying.specs.declared.call.Answer.the-variants.{Done, Shown, Refused}
 use Rattle.applying.specs.Applied.{callOf, answerOf, buffersAfter}
-use Rattle.console_text.specs.declared.parse.SettingsLine.{SettingsLine}
-use Rattle.console_text.specs.declared.parse.SettingsLine.the-variants as settings
+use Rattle.console_text.specs.declared.parse.Numbers.{Numbers}
+use Rattle.console_text.specs.declared.parse.Numbers.the-variants as numbers
 use Rattle.console_text.specs.declared.parse.Line.{Line}
 use Rattle.console_text.specs.declared.parse.Line.the-variants as change
 use Rattle.console_text.specs.Input.{settingsNames, settingsLine, changeNames, changeLine}
@@ -85,9 +85,9 @@ called done refused time call words =
     does (answered done refused time (answerOf (reply .answer))) (reply .store) (getD after 0 []) (getD after 1 [])
 
 -- "Start is called before the third line is read; refused, it prints `no` at time 0 and ends the run."
-unfoldable pub settingsDo : SettingsLine → Lent → Does
-settingsDo (settings.Values b q blocks tags) words = called ChangeNames Over 0 (call.Start (settingsOf b q blocks tags)) words
-settingsDo settings.Bad words = only (badAt Settings) words
+unfoldable pub settingsDo : Numbers → Lent → Does
+settingsDo (numbers.Four b q blocks tags) words = called ChangeNames Over 0 (call.Start (settingsOf b q blocks tags)) words
+settingsDo numbers.Bad words = only (badAt Settings) words
 
 -- "Signs: + set, - clear, = new reading, . clock, ? look back"
 abbrev pub askedOf : Line → LineAsks

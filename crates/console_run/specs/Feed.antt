@@ -76,25 +76,25 @@ isOver Changes = false
 isOver Over = true
 
 -- The console between two bytes, with the line's buffer and the lent words.
-pub record State : Type 0 where
+pub record ConsoleState : Type 0 where
   pub console : Console
   pub line : List ℕ
   pub lent : Lent
 
-abbrev pub stateOf : Console → List ℕ → Lent → State
+abbrev pub stateOf : Console → List ℕ → Lent → ConsoleState
 stateOf c line words = record { console = c; line = line; lent = words }
 
-abbrev pub state : Console → List ℕ → List ℕ → List ℕ → List ℕ → State
+abbrev pub state : Console → List ℕ → List ℕ → List ℕ → List ℕ → ConsoleState
 state c line store rows list = stateOf c line (lent store rows list)
 
 -- A byte more.
-abbrev pub afterByte : State → ℕ → State
+abbrev pub afterByte : ConsoleState → ℕ → ConsoleState
 afterByte s x =
     let f = fed (s .console) (s .line) (s .lent) x in
     record { console = f .step .console; line = f .line; lent = f .lent }
 
 -- After these bytes. None is fed once the run is over.
-unfoldable pub fedAll : State → List ℕ → State
+unfoldable pub fedAll : ConsoleState → List ℕ → ConsoleState
 fedAll s [] = s
 fedAll s (x ∷ more) = cond (isOver (s .console .stage)) s (fedAll (afterByte s x) more)
 
@@ -108,17 +108,17 @@ abbrev pub stepBytes : Stepped → List ℕ
 stepBytes s = joined (stepLines s)
 
 -- The output lines for these bytes, as long as the run is not over.
-unfoldable pub fedLines : State → List ℕ → List (List ℕ)
+unfoldable pub fedLines : ConsoleState → List ℕ → List (List ℕ)
 fedLines s [] = []
 fedLines s (x ∷ more) =
     cond (isOver (s .console .stage)) [] (stepLines (fed (s .console) (s .line) (s .lent) x) ++ fedLines (afterByte s x) more)
 
 -- Those at the end of the input: of the last line, then of a missing one.
-unfoldable pub finishLines : State → List (List ℕ)
+unfoldable pub finishLines : ConsoleState → List (List ℕ)
 finishLines s =
     let t = lastTaken (s .console) (s .line) (s .lent) in
     stepLines t ++ saidLines (missing (t .step .console .stage)) (t .step .console .number) (t .lent .rows)
 
 -- Those for an input from here on, by a program that feeds the bytes in order until the run is over, prints what each step says, and then finishes.
-unfoldable pub runLines : State → List ℕ → List (List ℕ)
+unfoldable pub runLines : ConsoleState → List ℕ → List (List ℕ)
 runLines s input = fedLines s input ++ finishLines (fedAll s input)

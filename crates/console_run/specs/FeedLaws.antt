@@ -21,7 +21,7 @@ use Rattle.console_run.specs.declared.turn.Turn.{Turn}
 use Rattle.console_run.specs.declared.feed.Console.{Console}
 use Rattle.console_run.specs.declared.feed.Step.{Step}
 use Rattle.console_run.specs.Console.{Lent, does, textDoes, lineDoes, saidLines, joined, saidBytes, missing, consoleFrom, blank, consoleOutput}
-use Rattle.console_run.specs.Feed.{Stepped, stepped, begun, countMost, nextNumber, passed, goesOn, taken, fedBy, fed, lastTaken, isOver, State, stateOf, afterByte, fedAll, stepLines, stepBytes, fedLines, finishLines, runLines}
+use Rattle.console_run.specs.Feed.{Stepped, stepped, begun, countMost, nextNumber, passed, goesOn, taken, fedBy, fed, lastTaken, isOver, ConsoleState, stateOf, afterByte, fedAll, stepLines, stepBytes, fedLines, finishLines, runLines}
 
 -- ---- a step
 module _ (c : Console) (line : List ℕ) (words : Lent) where
@@ -52,21 +52,21 @@ module _ (c : Console) (line : List ℕ) (words : Lent) where
 
 -- ---- bytes, one after another
 
-pub all-over : (s : State) (input : List ℕ) → isOver (s .console .stage) ≡ true → fedAll s input ≡ s
+pub all-over : (s : ConsoleState) (input : List ℕ) → isOver (s .console .stage) ≡ true → fedAll s input ≡ s
 unfolding fedAll
 all-over s [] e = refl
 all-over s (x ∷ more) e = rw e
 
-pub all-more : (s : State) (x : ℕ) (more : List ℕ) → isOver (s .console .stage) ≡ false → fedAll s (x ∷ more) ≡ fedAll (afterByte s x) more
+pub all-more : (s : ConsoleState) (x : ℕ) (more : List ℕ) → isOver (s .console .stage) ≡ false → fedAll s (x ∷ more) ≡ fedAll (afterByte s x) more
 unfolding fedAll
 all-more s x more e = rw e
 
-pub all-none : (s : State) → fedAll s [] ≡ s
+pub all-none : (s : ConsoleState) → fedAll s [] ≡ s
 unfolding fedAll
 all-none s = refl
 
 -- READING IN CHUNKS IS READING AT ONCE.
-pub in-chunks : (s : State) (chunk more : List ℕ) → fedAll (fedAll s chunk) more ≡ fedAll s (chunk ++ more)
+pub in-chunks : (s : ConsoleState) (chunk more : List ℕ) → fedAll (fedAll s chunk) more ≡ fedAll s (chunk ++ more)
 in-chunks s [] more = rw (all-none s)
 in-chunks s (x ∷ chunk) more = by-test (isOver (s .console .stage)) (λ b. fedAll (fedAll s (x ∷ chunk)) more ≡ fedAll s (x ∷ (chunk ++ more)))
     (λ e. rw (all-over s (x ∷ chunk) e, all-over s more e, all-over s (x ∷ (chunk ++ more)) e))
@@ -74,16 +74,16 @@ in-chunks s (x ∷ chunk) more = by-test (isOver (s .console .stage)) (λ b. fed
 
 -- ---- their lines, one after another
 
-pub lines-none : (s : State) → fedLines s [] ≡ []
+pub lines-none : (s : ConsoleState) → fedLines s [] ≡ []
 unfolding fedLines
 lines-none s = refl
 
-pub lines-over : (s : State) (input : List ℕ) → isOver (s .console .stage) ≡ true → fedLines s input ≡ []
+pub lines-over : (s : ConsoleState) (input : List ℕ) → isOver (s .console .stage) ≡ true → fedLines s input ≡ []
 unfolding fedLines
 lines-over s [] e = refl
 lines-over s (x ∷ more) e = rw e
 
-pub lines-more : (s : State) (x : ℕ) (more : List ℕ) → isOver (s .console .stage) ≡ false
+pub lines-more : (s : ConsoleState) (x : ℕ) (more : List ℕ) → isOver (s .console .stage) ≡ false
     → fedLines s (x ∷ more) ≡ stepLines (fed (s .console) (s .line) (s .lent) x) ++ fedLines (afterByte s x) more
 unfolding fedLines
 lines-more s x more e = rw e
@@ -94,15 +94,15 @@ joined-append [] m = refl
 joined-append (line ∷ l) m = ap (λ (r : List ℕ). line ++ r) (joined-append l m) ∙ sym (append-assoc line (joined l) (joined m))
 
 -- The bytes of a run: once it is over or the input has ended those at the end, else a step's, then the rest.
-run-over : (s : State) (input : List ℕ) → isOver (s .console .stage) ≡ true → joined (runLines s input) ≡ joined (finishLines s)
+run-over : (s : ConsoleState) (input : List ℕ) → isOver (s .console .stage) ≡ true → joined (runLines s input) ≡ joined (finishLines s)
 unfolding runLines
 run-over s input e = rw (lines-over s input e, all-over s input e)
 
-run-none : (s : State) → joined (runLines s []) ≡ joined (finishLines s)
+run-none : (s : ConsoleState) → joined (runLines s []) ≡ joined (finishLines s)
 unfolding runLines
 run-none s = rw (lines-none s, all-none s)
 
-run-more : (s : State) (x : ℕ) (more : List ℕ) → isOver (s .console .stage) ≡ false
+run-more : (s : ConsoleState) (x : ℕ) (more : List ℕ) → isOver (s .console .stage) ≡ false
     → joined (runLines s (x ∷ more)) ≡ stepBytes (fed (s .console) (s .line) (s .lent) x) ++ joined (runLines (afterByte s x) more)
 unfolding runLines
 run-more s x more e =

@@ -5,11 +5,11 @@ use mathlib.Core.Bool.{true}
 use mathlib.Core.List.{List, [], _∷_, _++_, append-assoc, append-nil}
 use Prim.Native.Nat.{ℕ}
 use Rattle.base.specs.Branch.{by-test}
-use Rattle.console_run.specs.Feed.{fed, isOver, State, afterByte, fedAll, stepLines, fedLines, runLines}
+use Rattle.console_run.specs.Feed.{fed, isOver, ConsoleState, afterByte, fedAll, stepLines, fedLines, runLines}
 use Rattle.console_run.specs.FeedLaws.{all-none, all-over, all-more, in-chunks, lines-none, lines-over, lines-more}
 
 -- The lines for an input in two parts are those for the parts.
-pub lines-in-chunks : (s : State) (chunk more : List ℕ) → fedLines s (chunk ++ more) ≡ fedLines s chunk ++ fedLines (fedAll s chunk) more
+pub lines-in-chunks : (s : ConsoleState) (chunk more : List ℕ) → fedLines s (chunk ++ more) ≡ fedLines s chunk ++ fedLines (fedAll s chunk) more
 lines-in-chunks s [] more = rw (lines-none s, all-none s)
 lines-in-chunks s (x ∷ chunk) more = by-test (isOver (s .console .stage))
     (λ b. fedLines s (x ∷ (chunk ++ more)) ≡ fedLines s (x ∷ chunk) ++ fedLines (fedAll s (x ∷ chunk)) more)
@@ -20,7 +20,7 @@ lines-in-chunks s (x ∷ chunk) more = by-test (isOver (s .console .stage))
     ∙ sym (append-assoc step (fedLines (afterByte s x) chunk) (fedLines (fedAll (afterByte s x) chunk) more))))
 
 -- WHAT IS LEFT UNREAD ONCE THE RUN IS OVER WOULD CHANGE NOTHING.
-pub unread : (s : State) (input more : List ℕ) → isOver (fedAll s input .console .stage) ≡ true → runLines s (input ++ more) ≡ runLines s input
+pub unread : (s : ConsoleState) (input more : List ℕ) → isOver (fedAll s input .console .stage) ≡ true → runLines s (input ++ more) ≡ runLines s input
 unfolding runLines
 unread s input more e =
     rw (

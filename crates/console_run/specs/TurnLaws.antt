@@ -16,8 +16,8 @@ use Rattle.applying.specs.declared.call.Call.the-variants as call
 use Rattle.applying.specs.declared.call.Answer.{Answer}
 use Rattle.applying.specs.Applied.{Applied}
 use Rattle.console_text.specs.declared.gather.Gather.{Gather}
-use Rattle.console_text.specs.declared.parse.SettingsLine.{SettingsLine}
-use Rattle.console_text.specs.declared.parse.SettingsLine.the-variants as settings
+use Rattle.console_text.specs.declared.parse.Numbers.{Numbers}
+use Rattle.console_text.specs.declared.parse.Numbers.the-variants as numbers
 use Rattle.console_text.specs.declared.parse.Line.{Line}
 use Rattle.console_text.specs.Input.{settingsNames, settingsLine, changeNames, changeLine}
 use Rattle.console_text.specs.Lines.{lineText}
@@ -68,16 +68,16 @@ called-is done refused time p e = rw (e, p .answer, p .store, ← (p .buffers))
 -- ---- what a line asks for
 
 -- The settings ask for start, at time 0.
-abbrev pub startOf : SettingsLine → LineAsks
-startOf (settings.Values b q blocks tags) = asked.Call 0 (call.Start (settingsOf b q blocks tags))
-startOf settings.Bad = asked.Bad
+abbrev pub startOf : Numbers → LineAsks
+startOf (numbers.Four b q blocks tags) = asked.Call 0 (call.Start (settingsOf b q blocks tags))
+startOf numbers.Bad = asked.Bad
 
 -- What is asked for at a stage, and what is awaited after it, accepted or refused.
 unfoldable pub askedDo : Stage → Stage → Stage → LineAsks → Lent → Does
 askedDo stage done refused (asked.Call time call) words = called done refused time call words
 askedDo stage done refused asked.Bad words = only (badAt stage) words
 
-pub start-asked : {line : SettingsLine} {b q blocks tags : ℕ} {s : Setting} → line ≡ settings.Values b q blocks tags
+pub start-asked : {line : Numbers} {b q blocks tags : ℕ} {s : Setting} → line ≡ numbers.Four b q blocks tags
     → s ≡ settingsOf b q blocks tags → asked.Call 0 (call.Start s) ≡ startOf line
 start-asked e f = rw (e, f)
 
@@ -92,10 +92,10 @@ module _ {a : LineAsks} (stage done refused : Stage) where
   unfolding askedDo
   asked-bad words e f = rw (e, f)
 
-start-does : (line : SettingsLine) (words : Lent) → askedDo Settings ChangeNames Over (startOf line) words ≡ settingsDo line words
+start-does : (line : Numbers) (words : Lent) → askedDo Settings ChangeNames Over (startOf line) words ≡ settingsDo line words
 unfolding askedDo settingsDo
-start-does (settings.Values b q blocks tags) words = refl
-start-does settings.Bad words = refl
+start-does (numbers.Four b q blocks tags) words = refl
+start-does numbers.Bad words = refl
 
 asked-does : (a : LineAsks) (words : Lent) → askedDo Changes Changes Changes a words ≡ changeDo a words
 unfolding askedDo changeDo
@@ -103,7 +103,7 @@ asked-does (asked.Call time call) words = refl
 asked-does asked.Bad words = refl
 
 module _ (words : Lent) {a : LineAsks} {d : Does} where
-  pub settings-does : {read line : SettingsLine} → read ≡ line → a ≡ startOf read
+  pub settings-does : {read line : Numbers} → read ≡ line → a ≡ startOf read
       → d ≡ askedDo Settings ChangeNames Over a words → d ≡ settingsDo line words
   settings-does {line} e f g = g ∙ rw (f, e) (start-does line words)
 

@@ -47,7 +47,8 @@ fn word(rows: &[u32], i: usize) -> u32
 
 // A look-back's i-th row, or its sum after them.
 fn put_slice(out: &mut [u8], time: u32, count: u32, blocks: u32, rows: &[u32], i: u64) -> usize
-    ensures { λ r. ⌜ Printed (sliceLine time count blocks (now (rows .entry)) i) (now (out .entry)) r (now (out .exit)) ⌝ }
+    ensures { λ r. ⌜ Printed (sliceLine time count blocks (now (rows .entry)) i)
+        (now (out .entry)) r (now (out .exit)) ⌝ }
 {
     if count as u64 <= i {
         return print::put_sum(out, time, count, blocks);
@@ -60,7 +61,8 @@ fn put_slice(out: &mut [u8], time: u32, count: u32, blocks: u32, rows: &[u32], i
 
 // The i-th line, counted from 0, of what is said of the input line `number`; nothing past the last.
 pub fn put_line(out: &mut [u8], said: Said, number: u64, rows: &[u32], i: u64) -> usize
-    ensures { λ r. ⌜ Printed (getD (saidLines said number (now (rows .entry))) i []) (now (out .entry)) r (now (out .exit)) ⌝ }
+    ensures { λ r. ⌜ Printed (getD (saidLines said number (now (rows .entry))) i [])
+        (now (out .entry)) r (now (out .exit)) ⌝ }
 {
     if line_count(said) <= i {
         return 0;

@@ -5,7 +5,7 @@ use console_text::gather::Gather;
 use console_text::gather::LINE_MOST;
 use console_text::parse;
 use console_text::parse::Line;
-use console_text::parse::SettingsLine;
+use console_text::parse::Numbers;
 use layout::settings::Settings;
 ghost use mathlib.Core.Path.{_≡_};
 ghost use Prim.Native.Nat.{min};
@@ -125,14 +125,14 @@ fn asked_of(line: Line) -> LineAsks
 }
 
 // What the settings ask for: to start with them, at time 0.
-fn start_of(line: SettingsLine) -> LineAsks
+fn start_of(line: Numbers) -> LineAsks
     ensures { λ r. ⌜ r ≡ startOf line ⌝ }
 {
     match line {
-        SettingsLine::Values(b, q, blocks, tags) => {
+        Numbers::Four(b, q, blocks, tags) => {
             LineAsks::Call(0, Call::Start(Settings::asked(b, q, blocks, tags)))
         }
-        SettingsLine::Bad => LineAsks::Bad,
+        Numbers::Bad => LineAsks::Bad,
     }
 }
 
@@ -160,7 +160,8 @@ fn called(
 
 fn settings(text: &[u8], store: &mut [u32], rows: &mut [u32], list: &mut [u32]) -> Turn
     ensures { λ r. ⌜ does r (now (store .exit)) (now (rows .exit)) (now (list .exit))
-        ≡ settingsDo (settingsLine (now (text .entry))) (lent (now (store .entry)) (now (rows .entry)) (now (list .entry))) ⌝ }
+        ≡ settingsDo (settingsLine (now (text .entry)))
+        (lent (now (store .entry)) (now (rows .entry)) (now (list .entry))) ⌝ }
 {
     let asked = start_of(parse::parse_settings(text));
     called(
@@ -176,7 +177,8 @@ fn settings(text: &[u8], store: &mut [u32], rows: &mut [u32], list: &mut [u32]) 
 
 fn change(text: &[u8], store: &mut [u32], rows: &mut [u32], list: &mut [u32]) -> Turn
     ensures { λ r. ⌜ does r (now (store .exit)) (now (rows .exit)) (now (list .exit))
-        ≡ changeDo (askedOf (changeLine (now (text .entry)))) (lent (now (store .entry)) (now (rows .entry)) (now (list .entry))) ⌝ }
+        ≡ changeDo (askedOf (changeLine (now (text .entry))))
+        (lent (now (store .entry)) (now (rows .entry)) (now (list .entry))) ⌝ }
 {
     let asked = asked_of(parse::parse_change(text));
     called(

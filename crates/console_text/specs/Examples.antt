@@ -2,14 +2,14 @@
 use mathlib.Core.Path.{_≡_, refl}
 use mathlib.Core.List.{[], _∷_, _++_, map}
 use lib.ListN.{replicate}
-use Rattle.console_text.specs.declared.parse.SettingsLine.the-variants as settings
+use Rattle.console_text.specs.declared.parse.Numbers.the-variants.{Four}
 use Rattle.console_text.specs.declared.parse.Line.the-variants as change
 use Rattle.console_text.specs.Bytes.{bytes}
 use Rattle.console_text.specs.Decimal.{digitsBefore, decimal, readOn, spareZero, numberOf, wordOf, negated, readingOf}
 use Rattle.console_text.specs.Reading.{isBelow, sizeOf, tenthsOf, signBytes, knBytes}
 use Rattle.console_text.specs.Output.{outputNames, lineStart, line, rowLine, sumLine, noLine, badLine}
 use Rattle.console_text.specs.Fields.{ontoFirst, split, four}
-use Rattle.console_text.specs.Input.{given, settingsOf, settingsLine, bySign, signOf, changeOf, changeLine}
+use Rattle.console_text.specs.Input.{signOf, numberIn, numbersOf, numbersIn, settingsLine, bySign, changeOf, changeLine}
 use Rattle.console_text.specs.Lines.{whole, tooLong, textOf, ended, linesOf}
 
 -- "Output:", as it is printed there
@@ -31,8 +31,8 @@ unfolding bytes lineStart line badLine decimal digitsBefore
 bad-printed = refl
 
 -- "Input:", the settings, a change of each sign, the largest word and the readings at both ends
-settings-read : settingsLine (bytes "4,2,8,16") ≡ settings.Values 4 2 8 16
-unfolding bytes ontoFirst split four readOn spareZero numberOf wordOf given settingsOf settingsLine
+settings-read : settingsLine (bytes "4,2,8,16") ≡ Four 4 2 8 16
+unfolding bytes ontoFirst split four readOn spareZero numberOf wordOf numberIn numbersOf numbersIn settingsLine
 settings-read = refl
 
 changes-read : map (λ t. changeLine (bytes t))
@@ -40,7 +40,7 @@ changes-read : map (λ t. changeLine (bytes t))
     ∷ "4294967295,4294967295,+,2147483647" ∷ "0,0,+,-2147483648" ∷ [])
     ≡ change.Set 1 1 25 ∷ change.Set 2 2 4294967271 ∷ change.Clear 6 2 ∷ change.Update 6 2 0 ∷ change.Advance 9 ∷ change.LookBack 7
     ∷ change.Set 4294967295 4294967295 2147483647 ∷ change.Set 0 0 2147483648 ∷ []
-unfolding bytes ontoFirst split four readOn spareZero numberOf wordOf negated readingOf given bySign signOf changeOf changeLine
+unfolding bytes ontoFirst split four readOn spareZero numberOf wordOf negated readingOf signOf numberIn numbersOf numbersIn bySign changeOf changeLine
 changes-read = refl
 
 -- A minus before 0, a time or a tag; spare zeros; a plus before a number; numbers out of range; empty fields; two and four commas; an
@@ -50,7 +50,7 @@ bad-read : map (λ t. changeLine (bytes t))
     ∷ "4294967296,1,+,0" ∷ "1,1,+,2147483648" ∷ "1,1,+,-2147483649" ∷ ",1,+,0" ∷ "1,1,,0" ∷ "1,1,+," ∷ "1,1,+,-" ∷ ""
     ∷ "1,1,+" ∷ "1,1,+,0,0" ∷ "1,1,-,5" ∷ "1,1,.,0" ∷ "1,0,?,1" ∷ "1,1,++,0" ∷ "1,1,*,0" ∷ " 1,1,+,0" ∷ "1,1,+,0 " ∷ [])
     ≡ replicate 25 change.Bad
-unfolding bytes ontoFirst split four readOn spareZero numberOf wordOf negated readingOf given bySign signOf changeOf changeLine
+unfolding bytes ontoFirst split four readOn spareZero numberOf wordOf negated readingOf signOf numberIn numbersOf numbersIn bySign changeOf changeLine
 bad-read = refl
 
 -- An empty line is a line, the last may lack its newline, and a line of 81 bytes is too long.

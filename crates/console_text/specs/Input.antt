@@ -6,8 +6,10 @@ use Prim.Native.Char.{code}
 use lib.Dec.{eqb}
 use Rattle.console_text.specs.declared.decimal.Number.{Number}
 use Rattle.console_text.specs.declared.decimal.Number.the-variants.{Plain, None}
-use Rattle.console_text.specs.declared.parse.SettingsLine.{SettingsLine}
-use Rattle.console_text.specs.declared.parse.SettingsLine.the-variants as settings
+use Rattle.console_text.specs.declared.parse.Field.{Field}
+use Rattle.console_text.specs.declared.parse.Field.the-variants.{Word, Sign, Reading}
+use Rattle.console_text.specs.declared.parse.Numbers.{Numbers}
+use Rattle.console_text.specs.declared.parse.Numbers.the-variants as numbers
 use Rattle.console_text.specs.declared.parse.Line.{Line}
 use Rattle.console_text.specs.declared.parse.Line.the-variants as change
 use Rattle.console_text.specs.Bytes.{bytes}
@@ -21,22 +23,38 @@ settingsNames = bytes "block,useful,blocks,tags"
 unfoldable pub changeNames : List ℕ
 changeNames = bytes "time,tag,sign,value"
 
--- What follows from a field's number; `bad` where it has none.
-unfoldable pub given : {A : Type 0} → A → Number → (ℕ → A) → A
-given bad (Plain n) says = says n
-given bad None says = bad
+-- ---- four fields
+
+-- A sign is one byte, told by its code.
+unfoldable pub signOf : List ℕ → Number
+signOf [] = None
+signOf (x ∷ []) = Plain x
+signOf (x ∷ y ∷ rest) = None
+
+-- "Settings, times and tags may be any word, values any reading."
+unfoldable pub numberIn : Field → List ℕ → Number
+numberIn Word field = wordOf field
+numberIn Sign field = signOf field
+numberIn Reading field = readingOf field
+
+-- numbers.Four numbers, if no field stands for none.
+unfoldable pub numbersOf : Number → Number → Number → Number → Numbers
+numbersOf (Plain a) (Plain b) (Plain c) (Plain d) = numbers.Four a b c d
+numbersOf (Plain a) (Plain b) (Plain c) None = numbers.Bad
+numbersOf (Plain a) (Plain b) None d = numbers.Bad
+numbersOf (Plain a) None c d = numbers.Bad
+numbersOf None b c d = numbers.Bad
+
+-- A line of two words and two fields more.
+unfoldable pub numbersIn : Field → Field → List ℕ → Numbers
+numbersIn third fourth line =
+    four numbers.Bad (λ a b c d. numbersOf (wordOf a) (wordOf b) (numberIn third c) (numberIn fourth d)) (fieldsOf line)
 
 -- ---- the settings
 
-unfoldable pub settingsOf : List ℕ → List ℕ → List ℕ → List ℕ → SettingsLine
-settingsOf block useful blocks tags =
-    given settings.Bad (wordOf block) (λ b.
-    given settings.Bad (wordOf useful) (λ q.
-    given settings.Bad (wordOf blocks) (λ n.
-    given settings.Bad (wordOf tags) (λ d. settings.Values b q n d))))
-
-unfoldable pub settingsLine : List ℕ → SettingsLine
-settingsLine line = four settings.Bad settingsOf (fieldsOf line)
+-- b,q,B,D
+unfoldable pub settingsLine : List ℕ → Numbers
+settingsLine line = numbersIn Word Word line
 
 -- ---- the changes
 
@@ -50,17 +68,10 @@ bySign sign time tag value =
     (cond (eqb sign (code "?")) (cond (eqb value 0 && eqb tag 0) (change.LookBack time) change.Bad)
     change.Bad))))
 
--- A sign is one byte; 0 stands for none.
-unfoldable pub signOf : List ℕ → ℕ
-signOf [] = 0
-signOf (x ∷ []) = x
-signOf (x ∷ y ∷ rest) = 0
-
-unfoldable pub changeOf : List ℕ → List ℕ → List ℕ → List ℕ → Line
-changeOf time tag sign value =
-    given change.Bad (wordOf time) (λ t.
-    given change.Bad (wordOf tag) (λ g.
-    given change.Bad (readingOf value) (λ v. bySign (signOf sign) t g v)))
+-- time,tag,sign,value
+unfoldable pub changeOf : Numbers → Line
+changeOf (numbers.Four time tag sign value) = bySign sign time tag value
+changeOf numbers.Bad = change.Bad
 
 unfoldable pub changeLine : List ℕ → Line
-changeLine line = four change.Bad changeOf (fieldsOf line)
+changeLine line = changeOf (numbersIn Sign Reading line)

@@ -5,18 +5,35 @@ use bytes::scan;
 ghost use mathlib.Core.Path.{_≡_};
 ghost use mathlib.Core.Bool.{true};
 ghost use lib.ListN.{length};
-ghost use Rattle.console_text.specs.Input.{settingsNames, changeNames, settingsOf, settingsLine, bySign, signOf, changeOf, changeLine};
+ghost use Rattle.console_text.specs.Input.{settingsNames, changeNames, signOf, numberIn, numbersOf, numbersIn, settingsLine, bySign, changeLine};
 ghost use Rattle.console_text.specs.Fields.{fieldsOf, firstField, afterField};
 
 const COMMA: u8 = b',';
 
+// The signs of the changes, by their codes.
+const SET: u32 = b'+' as u32;
+
+const CLEAR: u32 = b'-' as u32;
+
+const UPDATE: u32 = b'=' as u32;
+
+const ADVANCE: u32 = b'.' as u32;
+
+const LOOK_BACK: u32 = b'?' as u32;
+
 // A line of settings or of a change has so many fields.
 const FIELDS: usize = 4;
 
-// The values of the second line.
-pub enum SettingsLine {
-    // b, q, B, D
-    Values(u32, u32, u32, u32),
+// How a field is read.
+pub enum Field {
+    Word,
+    Sign,
+    Reading,
+}
+
+// What four fields say.
+pub enum Numbers {
+    Four(u32, u32, u32, u32),
     Bad,
 }
 
@@ -36,13 +53,15 @@ pub enum Line {
 }
 
 pub fn is_settings_names(line: &[u8]) -> bool
-    ensures { λ r. ⌜ (r ≡ true → now (line .entry) ≡ settingsNames) × (now (line .entry) ≡ settingsNames → r ≡ true) ⌝ }
+    ensures { λ r. ⌜ (r ≡ true → now (line .entry) ≡ settingsNames)
+        × (now (line .entry) ≡ settingsNames → r ≡ true) ⌝ }
 {
     check::same(line, b"block,useful,blocks,tags")
 }
 
 pub fn is_change_names(line: &[u8]) -> bool
-    ensures { λ r. ⌜ (r ≡ true → now (line .entry) ≡ changeNames) × (now (line .entry) ≡ changeNames → r ≡ true) ⌝ }
+    ensures { λ r. ⌜ (r ≡ true → now (line .entry) ≡ changeNames)
+        × (now (line .entry) ≡ changeNames → r ≡ true) ⌝ }
 {
     check::same(line, b"time,tag,sign,value")
 }
@@ -84,109 +103,111 @@ fn after_field(line: &[u8]) -> &[u8]
     &line[next..]
 }
 
-// Four words.
-fn settings_of(block: &[u8], useful: &[u8], blocks: &[u8], tags: &[u8]) -> SettingsLine
-    ensures { λ r. ⌜ r ≡ settingsOf (now (block .entry)) (now (useful .entry)) (now (blocks .entry)) (now (tags .entry)) ⌝ }
+// A byte's code.
+fn code(byte: u8) -> u32
+    ensures { λ r. ⌜ r ≡ byte ⌝ }
 {
-    let Number::Plain(b) = decimal::word(block) else {
-        return SettingsLine::Bad;
-    };
-    let Number::Plain(q) = decimal::word(useful) else {
-        return SettingsLine::Bad;
-    };
-    let Number::Plain(n) = decimal::word(blocks) else {
-        return SettingsLine::Bad;
-    };
-    let Number::Plain(d) = decimal::word(tags) else {
-        return SettingsLine::Bad;
-    };
-    SettingsLine::Values(b, q, n, d)
+    byte as u32
 }
 
-// b,q,B,D
-pub fn parse_settings(line: &[u8]) -> SettingsLine
-    ensures { λ r. ⌜ r ≡ settingsLine (now (line .entry)) ⌝ }
-{
-    if field_count(line) != FIELDS {
-        return SettingsLine::Bad;
-    }
-    let second = after_field(line);
-    let third = after_field(second);
-    settings_of(
-        first_field(line),
-        first_field(second),
-        first_field(third),
-        after_field(third),
-    )
-}
-
-// The one byte of a sign; 0 for any other field.
-fn sign_of(field: &[u8]) -> u8
+// A sign is one byte, told by its code.
+fn sign_of(field: &[u8]) -> Number
     ensures { λ r. ⌜ r ≡ signOf (now (field .entry)) ⌝ }
 {
     if field.len() == 1 {
-        return field[0];
+        return Number::Plain(code(field[0]));
     }
-    0
+    Number::None
+}
+
+// The number that a field stands for.
+fn number_in(field: &[u8], kind: Field) -> Number
+    ensures { λ r. ⌜ r ≡ numberIn kind (now (field .entry)) ⌝ }
+{
+    match kind {
+        Field::Word => decimal::word(field),
+        Field::Sign => sign_of(field),
+        Field::Reading => decimal::reading(field),
+    }
+}
+
+// Four numbers, or Bad where one is none.
+fn numbers_of(first: Number, second: Number, third: Number, fourth: Number) -> Numbers
+    ensures { λ r. ⌜ r ≡ numbersOf first second third fourth ⌝ }
+{
+    let Number::Plain(a) = first else {
+        return Numbers::Bad;
+    };
+    let Number::Plain(b) = second else {
+        return Numbers::Bad;
+    };
+    let Number::Plain(c) = third else {
+        return Numbers::Bad;
+    };
+    let Number::Plain(d) = fourth else {
+        return Numbers::Bad;
+    };
+    Numbers::Four(a, b, c, d)
+}
+
+// A line of four fields, of which the first two are words.
+fn numbers_in(line: &[u8], third: Field, fourth: Field) -> Numbers
+    ensures { λ r. ⌜ r ≡ numbersIn third fourth (now (line .entry)) ⌝ }
+{
+    if field_count(line) != FIELDS {
+        return Numbers::Bad;
+    }
+    let from_second = after_field(line);
+    let from_third = after_field(from_second);
+    numbers_of(
+        decimal::word(first_field(line)),
+        decimal::word(first_field(from_second)),
+        number_in(first_field(from_third), third),
+        number_in(after_field(from_third), fourth),
+    )
+}
+
+// b,q,B,D
+pub fn parse_settings(line: &[u8]) -> Numbers
+    ensures { λ r. ⌜ r ≡ settingsLine (now (line .entry)) ⌝ }
+{
+    numbers_in(line, Field::Word, Field::Word)
 }
 
 // The change of a sign; a field that the sign does not use is 0.
-fn by_sign(sign: u8, time: u32, tag: u32, value: u32) -> Line
+fn by_sign(sign: u32, time: u32, tag: u32, value: u32) -> Line
     ensures { λ r. ⌜ r ≡ bySign sign time tag value ⌝ }
 {
-    if sign == b'+' {
+    if sign == SET {
         return Line::Set(time, tag, value);
     }
-    if sign == b'=' {
+    if sign == UPDATE {
         return Line::Update(time, tag, value);
     }
     if value != 0 {
         return Line::Bad;
     }
-    if sign == b'-' {
+    if sign == CLEAR {
         return Line::Clear(time, tag);
     }
     if tag != 0 {
         return Line::Bad;
     }
-    if sign == b'.' {
+    if sign == ADVANCE {
         return Line::Advance(time);
     }
-    if sign == b'?' {
+    if sign == LOOK_BACK {
         return Line::LookBack(time);
     }
     Line::Bad
-}
-
-// Time and tag are words, the value is a reading.
-fn change_of(time: &[u8], tag: &[u8], sign: &[u8], value: &[u8]) -> Line
-    ensures { λ r. ⌜ r ≡ changeOf (now (time .entry)) (now (tag .entry)) (now (sign .entry)) (now (value .entry)) ⌝ }
-{
-    let Number::Plain(t) = decimal::word(time) else {
-        return Line::Bad;
-    };
-    let Number::Plain(g) = decimal::word(tag) else {
-        return Line::Bad;
-    };
-    let Number::Plain(v) = decimal::reading(value) else {
-        return Line::Bad;
-    };
-    by_sign(sign_of(sign), t, g, v)
 }
 
 // time,tag,sign,value
 pub fn parse_change(line: &[u8]) -> Line
     ensures { λ r. ⌜ r ≡ changeLine (now (line .entry)) ⌝ }
 {
-    if field_count(line) != FIELDS {
-        return Line::Bad;
+    match numbers_in(line, Field::Sign, Field::Reading) {
+        Numbers::Four(time, tag, sign, value) => by_sign(sign, time, tag, value),
+        Numbers::Bad => Line::Bad,
     }
-    let second = after_field(line);
-    let third = after_field(second);
-    change_of(
-        first_field(line),
-        first_field(second),
-        first_field(third),
-        after_field(third),
-    )
 }

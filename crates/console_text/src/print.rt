@@ -65,7 +65,8 @@ pub fn put_bad(out: &mut [u8], line: u64) -> usize
 // A line whose second field is a number.
 fn put_numbers(out: &mut [u8], time: u32, kind: &[u8], first: u64, second: u64) -> usize
     requires { ⌜ length (now kind) ≤ 3 ⌝ }
-    ensures { λ r. ⌜ Printed (line time (now (kind .entry)) first (decimal second)) (now (out .entry)) r (now (out .exit)) ⌝ }
+    ensures { λ r. ⌜ Printed (line time (now (kind .entry)) first (decimal second))
+        (now (out .entry)) r (now (out .exit)) ⌝ }
 {
     if out.len() < LINE_ROOM {
         return 0;

@@ -23,7 +23,7 @@ use Rattle.layout.specs.StandingLaws as empty
 use Rattle.layout.specs.StandingLaws.{TwoWords, slots-empty, slots-next, other-words, other-fewer}
 use Rattle.calls.specs.Placing.{blockOf, slotOf}
 use Rattle.calls.specs.Refusals.{Test, anyOf, opens, tagBlock, closes, copies, acceptorCloses, afterClear, badPlace, badBlock, unsoundSet, unsoundClear, blocksOut}
-use Rattle.decisions.specs.TestLaws.{First, hit, miss, none}
+use Rattle.decisions.specs.TestLaws.{RefusalOf, hit, miss, none}
 use Rattle.decisions.specs.EffectLaws.{fewWhenFull}
 
 -- the links of `badBlock`, and one of its slots
@@ -91,7 +91,7 @@ module _ {p : ℕ → Bool} {all left : Standing} {t : Bool} (l : LookedAt p all
     look-fewer q = rw q (omega (arith, other-fewer left (l .words) some))
 
 -- ---- refusal 13: where a block opens, its own test; else it does not apply
-pub out-opens : (h : Head) (i : ℕ) {r : ℕ} → opens h i ≡ true → First (outTest h) r → First (record { number = OUT-OF-BLOCKS; applies = blocksOut h i } ∷ []) r
+pub out-opens : (h : Head) (i : ℕ) {r : ℕ} → opens h i ≡ true → RefusalOf (outTest h) r → RefusalOf (record { number = OUT-OF-BLOCKS; applies = blocksOut h i } ∷ []) r
 unfolding blocksOut
 out-opens h i e g = record { is = rw e (g .is) }
 
@@ -156,10 +156,10 @@ module _ (h : Head) (f : Memory) where
         g
 
     -- Its place is unsound, or the block that closes.
-    pub end-place : badPlace h f tag ≡ true → First (endingTests more h f tag) UNSOUND
+    pub end-place : badPlace h f tag ≡ true → RefusalOf (endingTests more h f tag) UNSOUND
     end-place e = hit (unsound-clear refl e refl refl)
 
-    pub end-closing : badPlace h f tag ≡ false → (closes h f n && badBlock h f n) ≡ true → First (endingTests more h f tag) UNSOUND
+    pub end-closing : badPlace h f tag ≡ false → (closes h f n && badBlock h f n) ≡ true → RefusalOf (endingTests more h f tag) UNSOUND
     end-closing e g = hit (unsound-clear refl e g refl)
 
   -- Its place and the block that closes are sound:
@@ -168,23 +168,23 @@ module _ (h : Head) (f : Memory) where
     the-rest e = unsound-clear more tag (x .is) (x .in-block) (x .brings) (x .place) (x .closing) e
 
     -- the records that it brings, by its tag's block
-    brought : {r : ℕ} → First (record { number = OUT-OF-BLOCKS; applies = blocksOut h i } ∷ []) r
-        → First (record { number = OUT-OF-BLOCKS; applies = blocksOut h (copies h f (tagBlock h f tag) + more) } ∷ []) r
+    brought : {r : ℕ} → RefusalOf (record { number = OUT-OF-BLOCKS; applies = blocksOut h i } ∷ []) r
+        → RefusalOf (record { number = OUT-OF-BLOCKS; applies = blocksOut h (copies h f (tagBlock h f tag) + more) } ∷ []) r
     brought {r} =
-        subst (λ (m : ℕ). First (record { number = OUT-OF-BLOCKS; applies = blocksOut h m } ∷ []) r)
+        subst (λ (m : ℕ). RefusalOf (record { number = OUT-OF-BLOCKS; applies = blocksOut h m } ∷ []) r)
         (x .brings ∙ ap (λ (m : ℕ). copies h f m + more) (x .in-block ∙ ap (blockOf (h .settings)) (x .is)))
 
     -- they open no block;
-    pub end-rests : opens h i ≡ false → First (endingTests more h f tag) 0
+    pub end-rests : opens h i ≡ false → RefusalOf (endingTests more h f tag) 0
     end-rests e = miss (the-rest (rw e)) (brought (miss (out-rests h i e) none))
 
     -- or they open one, and the acceptor is unsound, or only refusal 13 is left.
-    pub end-acceptor : opens h i ≡ true → badAcceptor h f (afterClear h f tag) ≡ true → First (endingTests more h f tag) UNSOUND
+    pub end-acceptor : opens h i ≡ true → badAcceptor h f (afterClear h f tag) ≡ true → RefusalOf (endingTests more h f tag) UNSOUND
     unfolding badAcceptor
     end-acceptor e g = hit (the-rest (rw e g))
 
-    pub end-out : {r : ℕ} → opens h i ≡ true → badAcceptor h f (afterClear h f tag) ≡ false → First (outTest h) r
-        → First (endingTests more h f tag) r
+    pub end-out : {r : ℕ} → opens h i ≡ true → badAcceptor h f (afterClear h f tag) ≡ false → RefusalOf (outTest h) r
+        → RefusalOf (endingTests more h f tag) r
     unfolding badAcceptor
     end-out e g o = miss (the-rest (rw e g)) (brought (out-opens h i e o))
 

@@ -21,7 +21,7 @@ use Rattle.calls.specs.Refusals.{Test, refusal, startTests}
 use Rattle.decisions.specs.declared.start.StartVerdict.the-variants.{Go, Refused}
 use Rattle.decisions.specs.Start.{startVerdict, startOwn}
 use Rattle.decisions.specs.Ready.{ReadyStart}
-use Rattle.decisions.specs.TestLaws.{First, NoneApplies, numbers, none-applies}
+use Rattle.decisions.specs.TestLaws.{RefusalOf, NoneApplies, numbers, none-applies}
 
 -- what the constructor answers to the settings asked for
 abbrev pub answered : Settings → SettingsAnswer
@@ -49,7 +49,7 @@ module _ (asked : Settings) where
         (λ a e. let z : SETTINGS ≡ k = cc in ap Refused (sym z))
 
     -- ---- then the store
-    module _ {s : Settings} {r : ℕ} (fit : answered asked ≡ answer.Fit s) (own : First (startOwn s ws) r) where
+    module _ {s : Settings} {r : ℕ} (fit : answered asked ≡ answer.Fit s) (own : RefusalOf (startOwn s ws) r) where
       start-first : (refusal (startTests asked ws) ≡ r) × (s ≡ asked)
       start-first = let t = settings-tests fit in (rw (t .0, ← (t .1)) (own .is), t .1)
 

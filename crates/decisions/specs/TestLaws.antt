@@ -12,16 +12,16 @@ use Rattle.base.specs.Sums.{All, nil, cons}
 use Rattle.calls.specs.Refusals.{Test, refusal}
 
 -- r is the refusal of a table: the rules by which a function's proof follows its tests
-pub record First (l : List Test) (r : ℕ) : Type 0 where
+pub record RefusalOf (l : List Test) (r : ℕ) : Type 0 where
   pub is : refusal l ≡ r
 
-pub hit : {b : Bool} {k : ℕ} {l : List Test} → b ≡ true → First (record { number = k; applies = b } ∷ l) k
+pub hit : {b : Bool} {k : ℕ} {l : List Test} → b ≡ true → RefusalOf (record { number = k; applies = b } ∷ l) k
 hit e = record { is = rw e }
 
-pub miss : {b : Bool} {k r : ℕ} {l : List Test} → b ≡ false → First l r → First (record { number = k; applies = b } ∷ l) r
+pub miss : {b : Bool} {k r : ℕ} {l : List Test} → b ≡ false → RefusalOf l r → RefusalOf (record { number = k; applies = b } ∷ l) r
 miss e h = record { is = rw e (h .is) }
 
-pub none : First [] 0
+pub none : RefusalOf [] 0
 none = record { is = refl }
 
 -- ---- a word read as r is 0, or not

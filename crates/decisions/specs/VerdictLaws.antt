@@ -21,10 +21,10 @@ use Rattle.calls.specs.Refusals.{Test, refusal, timeTests}
 use Rattle.decisions.specs.declared.Verdict.{Verdict}
 use Rattle.decisions.specs.declared.Verdict.the-variants.{Go, Refused}
 use Rattle.decisions.specs.Verdict.{ruled, verdict, timeOwn}
-use Rattle.decisions.specs.TestLaws.{First, miss, NoneApplies, numbers, none-applies, none-first, first-stays}
+use Rattle.decisions.specs.TestLaws.{RefusalOf, miss, NoneApplies, numbers, none-applies, none-first, first-stays}
 
 -- ---- a verdict and its refusal number
-pub verdict-is : {l : List Test} {r : ℕ} (h : Head) → First l r → ruled r h ≡ verdict l h
+pub verdict-is : {l : List Test} {r : ℕ} (h : Head) → RefusalOf l r → ruled r h ≡ verdict l h
 unfolding verdict
 verdict-is h e = rw (e .is)
 
@@ -55,41 +55,41 @@ gone-by l e q = rw (e, q)
 -- ---- the head first
 module _ (ws : List ℕ) (s : ℕ) where
   -- where its refusal is n, not 0, so is that of every table;
-  pub head-refused : {n : ℕ} (l : List Test) → n ≡ headRefusal ws → n ≢ 0 → First (timeTests ws s l) n
+  pub head-refused : {n : ℕ} (l : List Test) → n ≡ headRefusal ws → n ≢ 0 → RefusalOf (timeTests ws s l) n
   unfolding headAnswer
   head-refused {n} l = by-test (ltb (length ws) headLen)
       (λ t. n ≡ headNumber (cond t (answer.Refused SHORT-HEAD) (cond (badHead ws) (answer.Refused HEAD) (Read (headOf ws)))) → n ≢ 0
-      → First (record { number = SHORT-HEAD; applies = t } ∷ record { number = HEAD; applies = badHead ws } ∷ timeOwn (headOf ws) ws s l) n)
+      → RefusalOf (record { number = SHORT-HEAD; applies = t } ∷ record { number = HEAD; applies = badHead ws } ∷ timeOwn (headOf ws) ws s l) n)
       (λ a e d. record { is = sym e })
       (λ a. by-test (badHead ws)
       (λ t. n ≡ headNumber (cond t (answer.Refused HEAD) (Read (headOf ws))) → n ≢ 0
-      → First (record { number = SHORT-HEAD; applies = false } ∷ record { number = HEAD; applies = t } ∷ timeOwn (headOf ws) ws s l) n)
+      → RefusalOf (record { number = SHORT-HEAD; applies = false } ∷ record { number = HEAD; applies = t } ∷ timeOwn (headOf ws) ws s l) n)
       (λ b e d. record { is = sym e })
       (λ b e d. absurd (d e)))
 
   -- where it is 0, the other tests are looked at.
-  pub head-passed : {n r : ℕ} {h : Head} (l : List Test) → n ≡ headRefusal ws → n ≡ 0 → h ≡ headOf ws → First (timeOwn h ws s l) r
-      → First (timeTests ws s l) r
+  pub head-passed : {n r : ℕ} {h : Head} (l : List Test) → n ≡ headRefusal ws → n ≡ 0 → h ≡ headOf ws → RefusalOf (timeOwn h ws s l) r
+      → RefusalOf (timeTests ws s l) r
   head-passed {r = r} l e z q f =
       let p = head-passes ws (sym e ∙ z) in
-      miss (le-ltb (length ws) headLen (p .0)) (miss (p .1) (subst (λ (x : Head). First (timeOwn x ws s l) r) q f))
+      miss (le-ltb (length ws) headLen (p .0)) (miss (p .1) (subst (λ (x : Head). RefusalOf (timeOwn x ws s l) r) q f))
 
   -- A store that no test turns away has a head.
-  pub has-head : {r : ℕ} → First (timeTests ws s []) r → r ≡ 0 → headLen ≤ length ws
+  pub has-head : {r : ℕ} → RefusalOf (timeTests ws s []) r → r ≡ 0 → headLen ≤ length ws
   has-head e z = long (none-applies (numbers (timeTests ws s []) refl) (e .is ∙ z))
     where
       long : {l : List Test} → NoneApplies (record { number = SHORT-HEAD; applies = ltb (length ws) headLen } ∷ l) → headLen ≤ length ws
       long (cons a n) = ltb-false (length ws) headLen a
 
   -- ---- then the second, then what is a change's own
-  pub time-refused : {n : ℕ} (l : List Test) → First (timeTests ws s []) n → n ≢ 0 → Refused n ≡ verdict (timeTests ws s l) (headOf ws)
+  pub time-refused : {n : ℕ} (l : List Test) → RefusalOf (timeTests ws s []) n → n ≢ 0 → Refused n ≡ verdict (timeTests ws s l) (headOf ws)
   time-refused l e d =
       refused-by (timeTests ws s l) (headOf ws) (first-stays (timeTests ws s []) l (λ z. d (sym (e .is) ∙ z)) ∙ e .is) d
 
-  pub time-passed : {n r : ℕ} {h : Head} {v : Verdict} (own : Head → List Test) → First (timeTests ws s []) n → n ≡ 0 → h ≡ headOf ws → First (own h) r
+  pub time-passed : {n r : ℕ} {h : Head} {v : Verdict} (own : Head → List Test) → RefusalOf (timeTests ws s []) n → n ≡ 0 → h ≡ headOf ws → RefusalOf (own h) r
       → v ≡ ruled r h → v ≡ verdict (timeTests ws s (own (headOf ws))) (headOf ws)
   time-passed {r = r} own e z p f g =
-      let q : First (timeTests ws s (own (headOf ws))) r = record {
+      let q : RefusalOf (timeTests ws s (own (headOf ws))) r = record {
         is = none-first (own (headOf ws)) (none-applies (numbers (timeTests ws s []) refl) (e .is ∙ z)) ∙ ap (λ (x : Head). refusal (own x)) (sym p) ∙ f .is;
       } in
       g ∙ ap (ruled r) p ∙ verdict-is (headOf ws) q

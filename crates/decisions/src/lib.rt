@@ -18,7 +18,7 @@ ghost use Rattle.layout.specs.HeadLaws.{SoundHead};
 ghost use Rattle.calls.specs.Refusals.{timeTests, setTests, clearTests};
 ghost use Rattle.calls.specs.Step.{wordsRead};
 ghost use Rattle.decisions.specs.Verdict.{ruled, verdict, timeOwn};
-ghost use Rattle.decisions.specs.TestLaws.{First};
+ghost use Rattle.decisions.specs.TestLaws.{RefusalOf};
 
 // A change or clock move that may go on from this head, or its refusal.
 pub enum Verdict {
@@ -39,7 +39,7 @@ fn ruled(h: Head, n: u32) -> Verdict
 // Refusals 4, 5 and 6: what is tested once the head is read.
 fn time_refusal(store: &[u32], h: Head, second: u32) -> u32
     requires { ⌜ SoundHead h ⌝ }
-    ensures { λ r. ⌜ First (timeOwn h (now (store .entry)) second []) r ⌝ }
+    ensures { λ r. ⌜ RefusalOf (timeOwn h (now (store .entry)) second []) r ⌝ }
 {
     if store.len() < h.settings.words() {
         return refusal::SHORT_STORE;
@@ -55,7 +55,7 @@ fn time_refusal(store: &[u32], h: Head, second: u32) -> u32
 
 // Refusals 2 to 6, the first of every change: 0 if none applies.
 fn first_refusal(store: &[u32], second: u32) -> u32
-    ensures { λ r. ⌜ First (timeTests (now (store .entry)) second []) r ⌝ }
+    ensures { λ r. ⌜ RefusalOf (timeTests (now (store .entry)) second []) r ⌝ }
 {
     let n = head::head_refusal(store);
     if n != 0 {
@@ -78,7 +78,8 @@ pub fn decide_advance(store: &[u32], second: u32) -> Verdict
 
 // A set: refusals 2 to 6, then 8, 9, 12 and 13.
 pub fn decide_set(store: &[u32], second: u32, tag: u32) -> Verdict
-    ensures { λ r. ⌜ r ≡ verdict (setTests (now (store .entry)) (wordsRead (now (store .entry))) second tag) (headOf (now (store .entry))) ⌝ }
+    ensures { λ r. ⌜ r ≡ verdict (setTests (now (store .entry)) (wordsRead (now (store .entry))) second tag)
+        (headOf (now (store .entry))) ⌝ }
 {
     let n = first_refusal(store, second);
     if n != 0 {
@@ -92,7 +93,8 @@ pub fn decide_set(store: &[u32], second: u32, tag: u32) -> Verdict
 // A clear (more = 0: it places copies only) or a new reading (more = 1: it places its record besides): refusals 2 to 6, then 8, 10, 12 and 13.
 pub fn decide_clearing(store: &[u32], second: u32, tag: u32, more: u32) -> Verdict
     requires { ⌜ more ≤ 1 ⌝ }
-    ensures { λ r. ⌜ r ≡ verdict (clearTests more (now (store .entry)) (wordsRead (now (store .entry))) second tag) (headOf (now (store .entry))) ⌝ }
+    ensures { λ r. ⌜ r ≡ verdict (clearTests more (now (store .entry)) (wordsRead (now (store .entry))) second tag)
+        (headOf (now (store .entry))) ⌝ }
 {
     let n = first_refusal(store, second);
     if n != 0 {

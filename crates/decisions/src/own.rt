@@ -11,7 +11,7 @@ ghost use Prim.Native.Nat.{_≤_};
 ghost use lib.Dec.{leb};
 ghost use Rattle.calls.specs.Refusals.{setOwn, clearOwn};
 ghost use Rattle.decisions.specs.Ready.{wordsOf, Ready, PlaceOf};
-ghost use Rattle.decisions.specs.TestLaws.{First};
+ghost use Rattle.decisions.specs.TestLaws.{RefusalOf};
 ghost use Rattle.decisions.specs.SoundLaws.{outTest, endingTests};
 
 // Refusal 8: the tag is D or more.
@@ -23,7 +23,7 @@ fn beyond_tags(h: Head, tag: u32) -> bool
 
 // Refusal 13 where a block opens.
 fn opening_refusal(h: Head) -> u32
-    ensures { λ r. ⌜ First (outTest h) r ⌝ }
+    ensures { λ r. ⌜ RefusalOf (outTest h) r ⌝ }
 {
     if effect::all_opened(h) {
         return refusal::OUT_OF_BLOCKS;
@@ -34,7 +34,7 @@ fn opening_refusal(h: Head) -> u32
 // Refusals 8, 9, 12 and 13 of a set. Most sets open no block: for these the acceptor is not looked at.
 pub(crate) fn set_refusal(store: &[u32], h: Head, tag: u32) -> u32
     requires { ⌜ Ready (now store) h ⌝ }
-    ensures { λ r. ⌜ First (setOwn h (wordsOf h (now (store .entry))) tag) r ⌝ }
+    ensures { λ r. ⌜ RefusalOf (setOwn h (wordsOf h (now (store .entry))) tag) r ⌝ }
 {
     if beyond_tags(h, tag) {
         return refusal::TAG;
@@ -56,7 +56,7 @@ fn ending_refusal(store: &[u32], h: Head, tag: u32, p: u32, more: u32) -> u32
     requires { ⌜ Ready (now store) h ⌝ }
     requires { ⌜ PlaceOf h (now store) tag p ⌝ }
     requires { ⌜ more ≤ 1 ⌝ }
-    ensures { λ r. ⌜ First (endingTests more h (wordsOf h (now (store .entry))) tag) r ⌝ }
+    ensures { λ r. ⌜ RefusalOf (endingTests more h (wordsOf h (now (store .entry))) tag) r ⌝ }
 {
     if sound::place_is_bad(store, h, tag, p) {
         return refusal::UNSOUND;
@@ -79,7 +79,7 @@ fn ending_refusal(store: &[u32], h: Head, tag: u32, p: u32, more: u32) -> u32
 pub(crate) fn clear_refusal(store: &[u32], h: Head, tag: u32, more: u32) -> u32
     requires { ⌜ Ready (now store) h ⌝ }
     requires { ⌜ more ≤ 1 ⌝ }
-    ensures { λ r. ⌜ First (clearOwn more h (wordsOf h (now (store .entry))) tag) r ⌝ }
+    ensures { λ r. ⌜ RefusalOf (clearOwn more h (wordsOf h (now (store .entry))) tag) r ⌝ }
 {
     if beyond_tags(h, tag) {
         return refusal::TAG;

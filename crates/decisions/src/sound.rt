@@ -68,7 +68,8 @@ fn slot_is_bad(store: &[u32], h: Head, n: u32, k: u32) -> bool
 fn slots_are_bad(store: &[u32], h: Head, n: u32) -> bool
     requires { ⌜ Ready (now store) h ⌝ }
     requires { ⌜ Numbered (h .settings) n ⌝ }
-    ensures { λ r. ⌜ r ≡ anyOf (badSlot h (wordsOf h (now (store .entry))) n) (slots (blockBits (wordsOf h (now (store .entry))) n)) ⌝ }
+    ensures { λ r. ⌜ r ≡ anyOf (badSlot h (wordsOf h (now (store .entry))) n)
+        (slots (blockBits (wordsOf h (now (store .entry))) n)) ⌝ }
 {
     let mut left = address::standing(store, h.settings, n);
     while !left.is_empty() {
@@ -107,7 +108,8 @@ fn acceptor_is_bad(store: &[u32], h: Head, b: Standing) -> bool
 // The acceptor as a set finds it. (A set closes no other block.)
 pub(crate) fn unsound_for_set(store: &[u32], h: Head) -> bool
     requires { ⌜ Ready (now store) h ⌝ }
-    ensures { λ r. ⌜ r ≡ badAcceptor h (wordsOf h (now (store .entry))) (blockBits (wordsOf h (now (store .entry))) (h .cursor .opened)) ⌝ }
+    ensures { λ r. ⌜ r ≡ badAcceptor h (wordsOf h (now (store .entry)))
+        (blockBits (wordsOf h (now (store .entry))) (h .cursor .opened)) ⌝ }
 {
     if h.cursor.opened == 0 {
         return false;
@@ -135,7 +137,8 @@ pub(crate) fn unsound_after_clear(store: &[u32], h: Head, tag: u32, p: u32) -> b
     requires { ⌜ Ready (now store) h ⌝ }
     requires { ⌜ PlaceOf h (now store) tag p ⌝ }
     requires { ⌜ Lies h p ⌝ }
-    ensures { λ r. ⌜ r ≡ badAcceptor h (wordsOf h (now (store .entry))) (afterClear h (wordsOf h (now (store .entry))) tag) ⌝ }
+    ensures { λ r. ⌜ r ≡ badAcceptor h (wordsOf h (now (store .entry)))
+        (afterClear h (wordsOf h (now (store .entry))) tag) ⌝ }
 {
     let b = after_clear(store, h, tag, p);
     acceptor_is_bad(store, h, b)
@@ -145,7 +148,8 @@ pub(crate) fn unsound_after_clear(store: &[u32], h: Head, tag: u32, p: u32) -> b
 pub(crate) fn closing_is_bad(store: &[u32], h: Head, n: u32) -> bool
     requires { ⌜ Ready (now store) h ⌝ }
     requires { ⌜ Numbered (h .settings) n ⌝ }
-    ensures { λ r. ⌜ r ≡ (closes h (wordsOf h (now (store .entry))) n && badBlock h (wordsOf h (now (store .entry))) n) ⌝ }
+    ensures { λ r. ⌜ r ≡ (closes h (wordsOf h (now (store .entry))) n
+        && badBlock h (wordsOf h (now (store .entry))) n) ⌝ }
 {
     if !effect::closes(store, h, n) {
         return false;

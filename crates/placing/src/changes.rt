@@ -15,7 +15,8 @@ ghost use Rattle.placing.specs.Steps.{Listed, clearingProgram};
 fn clear_tag(store: &mut [u32], h: Head, second: u32, tag: u32) -> Head
     requires { ⌜ Able (h .settings) (clearTag (h .settings) (h .cursor) second tag) (now store) ⌝ }
     requires { ⌜ Listed (h .settings) (now store) tag ⌝ }
-    ensures { λ r. ⌜ Moved h (clearTag (h .settings) (h .cursor) second tag) (now (store .entry)) r (now (store .exit)) ⌝ }
+    ensures { λ r. ⌜ Moved h (clearTag (h .settings) (h .cursor) second tag)
+        (now (store .entry)) r (now (store .exit)) ⌝ }
 {
     let s = h.settings;
     let place = address::read(store, s, Address::Dir(tag));
@@ -42,7 +43,8 @@ fn finish(store: &mut [u32], h: Head, second: u32) -> Head
 // A tag is set.
 pub fn set_program(store: &mut [u32], h: Head, second: u32, tag: u32, reading: u32) -> Head
     requires { ⌜ Able (h .settings) (setProgram (h .settings) (h .cursor) second tag reading) (now store) ⌝ }
-    ensures { λ r. ⌜ Moved h (setProgram (h .settings) (h .cursor) second tag reading) (now (store .entry)) r (now (store .exit)) ⌝ }
+    ensures { λ r. ⌜ Moved h (setProgram (h .settings) (h .cursor) second tag reading)
+        (now (store .entry)) r (now (store .exit)) ⌝ }
 {
     let placed = moves::place(store, h, second, tag, reading);
     finish(store, placed, second)
@@ -59,7 +61,8 @@ pub fn clearing_program(
 ) -> Head
     requires { ⌜ Able (h .settings) (clearingProgram more (h .settings) (h .cursor) second tag reading) (now store) ⌝ }
     requires { ⌜ Listed (h .settings) (now store) tag ⌝ }
-    ensures { λ r. ⌜ Moved h (clearingProgram more (h .settings) (h .cursor) second tag reading) (now (store .entry)) r (now (store .exit)) ⌝ }
+    ensures { λ r. ⌜ Moved h (clearingProgram more (h .settings) (h .cursor) second tag reading)
+        (now (store .entry)) r (now (store .exit)) ⌝ }
 {
     let cleared = clear_tag(store, h, second, tag);
     if more == 0 {
@@ -72,7 +75,8 @@ pub fn clearing_program(
 // The clock moves.
 pub fn advance_program(store: &mut [u32], h: Head, second: u32) -> Head
     requires { ⌜ Able (h .settings) (advanceProgram (h .settings) (h .cursor) second) (now store) ⌝ }
-    ensures { λ r. ⌜ Moved h (advanceProgram (h .settings) (h .cursor) second) (now (store .entry)) r (now (store .exit)) ⌝ }
+    ensures { λ r. ⌜ Moved h (advanceProgram (h .settings) (h .cursor) second)
+        (now (store .entry)) r (now (store .exit)) ⌝ }
 {
     finish(store, h, second)
 }

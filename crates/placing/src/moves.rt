@@ -17,7 +17,8 @@ ghost use Rattle.calls.specs.Placing.{moveRecord, judgeFull, roll, makeRoom, pl
 // The records of these slots of block x move, in slot order, to an acceptor that has room for all of them.
 fn move_all(store: &mut [u32], h: Head, x: u32, second: u32, bits: Standing) -> Head
     requires { ⌜ Able (h .settings) (each (moveRecord (h .settings) x second) (slots bits) (h .cursor)) (now store) ⌝ }
-    ensures { λ r. ⌜ Moved h (each (moveRecord (h .settings) x second) (slots bits) (h .cursor)) (now (store .entry)) r (now (store .exit)) ⌝ }
+    ensures { λ r. ⌜ Moved h (each (moveRecord (h .settings) x second) (slots bits) (h .cursor))
+        (now (store .entry)) r (now (store .exit)) ⌝ }
 {
     let mut head = h;
     let mut left = bits;
@@ -39,7 +40,8 @@ fn too_few(s: Settings, bits: Standing) -> bool
 // The old acceptor x is judged: with fewer than q standing it closes, and its copies go into the new block, which has room for them.
 fn judge_full(store: &mut [u32], h: Head, x: u32, second: u32) -> Head
     requires { ⌜ Able (h .settings) (judgeFull (h .settings) (h .cursor) x second) (now store) ⌝ }
-    ensures { λ r. ⌜ Moved h (judgeFull (h .settings) (h .cursor) x second) (now (store .entry)) r (now (store .exit)) ⌝ }
+    ensures { λ r. ⌜ Moved h (judgeFull (h .settings) (h .cursor) x second)
+        (now (store .entry)) r (now (store .exit)) ⌝ }
 {
     let s = h.settings;
     let bits = address::standing(store, s, x);
@@ -80,7 +82,8 @@ fn make_room(store: &mut [u32], h: Head, second: u32) -> Head
 // A record is placed, where there is room or after room is made.
 pub(crate) fn place(store: &mut [u32], h: Head, second: u32, tag: u32, reading: u32) -> Head
     requires { ⌜ Able (h .settings) (place (h .settings) (h .cursor) second tag reading) (now store) ⌝ }
-    ensures { λ r. ⌜ Moved h (place (h .settings) (h .cursor) second tag reading) (now (store .entry)) r (now (store .exit)) ⌝ }
+    ensures { λ r. ⌜ Moved h (place (h .settings) (h .cursor) second tag reading)
+        (now (store .entry)) r (now (store .exit)) ⌝ }
 {
     let with_room = make_room(store, h, second);
     records::put_record(store, with_room, second, tag, reading)
@@ -89,7 +92,8 @@ pub(crate) fn place(store: &mut [u32], h: Head, second: u32, tag: u32, reading: 
 // The record of slot k of block x moves to where any record goes.
 fn replace(store: &mut [u32], h: Head, x: u32, k: u32, second: u32) -> Head
     requires { ⌜ Able (h .settings) (replace (h .settings) x second k (h .cursor)) (now store) ⌝ }
-    ensures { λ r. ⌜ Moved h (replace (h .settings) x second k (h .cursor)) (now (store .entry)) r (now (store .exit)) ⌝ }
+    ensures { λ r. ⌜ Moved h (replace (h .settings) x second k (h .cursor))
+        (now (store .entry)) r (now (store .exit)) ⌝ }
 {
     let with_room = make_room(store, h, second);
     records::move_record(store, with_room, x, k, second)
@@ -98,7 +102,8 @@ fn replace(store: &mut [u32], h: Head, x: u32, k: u32, second: u32) -> Head
 // The records of these slots of block x are placed again, in slot order.
 fn replace_all(store: &mut [u32], h: Head, x: u32, second: u32, bits: Standing) -> Head
     requires { ⌜ Able (h .settings) (each (replace (h .settings) x second) (slots bits) (h .cursor)) (now store) ⌝ }
-    ensures { λ r. ⌜ Moved h (each (replace (h .settings) x second) (slots bits) (h .cursor)) (now (store .entry)) r (now (store .exit)) ⌝ }
+    ensures { λ r. ⌜ Moved h (each (replace (h .settings) x second) (slots bits) (h .cursor))
+        (now (store .entry)) r (now (store .exit)) ⌝ }
 {
     let mut head = h;
     let mut left = bits;

@@ -33,7 +33,8 @@ pub(crate) fn end_record(store: &mut [u32], s: Settings, n: u32, k: u32, second:
 // A record goes to the acceptor's next slot, from `second` on, and the directory follows.
 pub(crate) fn put_record(store: &mut [u32], h: Head, second: u32, tag: u32, reading: u32) -> Head
     requires { ⌜ Able (h .settings) (putRecord (h .settings) (h .cursor) second tag reading) (now store) ⌝ }
-    ensures { λ r. ⌜ Moved h (putRecord (h .settings) (h .cursor) second tag reading) (now (store .entry)) r (now (store .exit)) ⌝ }
+    ensures { λ r. ⌜ Moved h (putRecord (h .settings) (h .cursor) second tag reading)
+        (now (store .entry)) r (now (store .exit)) ⌝ }
 {
     let s = h.settings;
     let n = h.cursor.opened;
@@ -57,7 +58,8 @@ pub(crate) fn put_record(store: &mut [u32], h: Head, second: u32, tag: u32, read
 // The standing record of slot k of block x ends at `second` and is placed again, from then on, in an acceptor that has room.
 pub(crate) fn move_record(store: &mut [u32], h: Head, x: u32, k: u32, second: u32) -> Head
     requires { ⌜ Able (h .settings) (moveRecord (h .settings) x second k (h .cursor)) (now store) ⌝ }
-    ensures { λ r. ⌜ Moved h (moveRecord (h .settings) x second k (h .cursor)) (now (store .entry)) r (now (store .exit)) ⌝ }
+    ensures { λ r. ⌜ Moved h (moveRecord (h .settings) x second k (h .cursor))
+        (now (store .entry)) r (now (store .exit)) ⌝ }
 {
     let s = h.settings;
     let tag = address::read(store, s, Address::Slot(x, k, fields::TAG));

@@ -16,11 +16,11 @@ use Rattle.register.specs.declared.journal.Played.{Played}
 use Rattle.register.specs.declared.journal.Played.the-variants.{Counts, Ends}
 
 -- an entry: a change, or none that is known
-pub data Entry : Type 0 where
-  says : Call → Entry
-  nothing : Entry
+pub data JournalEntry : Type 0 where
+  says : Call → JournalEntry
+  nothing : JournalEntry
 
-abbrev pub entryOf : ℕ → ℕ → ℕ → ℕ → ℕ → Entry
+abbrev pub entryOf : ℕ → ℕ → ℕ → ℕ → ℕ → JournalEntry
 entryOf kind a b c d =
     cond (eqb kind 1) (says (Start (settingsOf a b c d)))
     (cond (eqb kind 2) (says (Set a b c))
@@ -29,7 +29,7 @@ entryOf kind a b c d =
     (cond (eqb kind 5) (says (Advance a))
     nothing))))
 
-abbrev pub before : Entry → List Call → List Call
+abbrev pub before : JournalEntry → List Call → List Call
 before (says c) rest = c ∷ rest
 before nothing rest = []
 
@@ -59,18 +59,18 @@ abbrev pub countsAs : ℕ → Played
 countsAs number = Counts (is (eqb number 0))
 
 -- the entry that begins at a place
-abbrev pub entryAt : List ℕ → ℕ → Entry
+abbrev pub entryAt : List ℕ → ℕ → JournalEntry
 entryAt j at = entryOf (getD j at 0) (getD j (at + 1) 0) (getD j (at + 2) 0) (getD j (at + 3) 0) (getD j (at + 4) 0)
 
 -- what an entry does, and the words after it
-abbrev pub playing : List ℕ → Entry → Played
+abbrev pub playing : List ℕ → JournalEntry → Played
 playing ws (says c) = Counts (is (accepted (step ws c .answer)))
 playing ws nothing = Ends
 
-abbrev pub afterEntry : List ℕ → Entry → List ℕ
+abbrev pub afterEntry : List ℕ → JournalEntry → List ℕ
 afterEntry ws (says c) = step ws c .store
 afterEntry ws nothing = ws
 
-pub record Plays (ws : List ℕ) (e : Entry) (r : Played) (ws′ : List ℕ) : Type 0 where
+pub record Plays (ws : List ℕ) (e : JournalEntry) (r : Played) (ws′ : List ℕ) : Type 0 where
   pub counted : r ≡ playing ws e
   pub store : ws′ ≡ afterEntry ws e

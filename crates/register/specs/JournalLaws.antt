@@ -16,17 +16,17 @@ use Rattle.register.specs.declared.journal.Played.{Played}
 use Rattle.register.specs.declared.journal.Played.the-variants.{Counts, Ends}
 use Rattle.register.specs.Exports.{Exported}
 use Rattle.register.specs.ExportLaws.{told-zero}
-use Rattle.register.specs.Journal.{Entry, says, nothing, entryOf, entryAt, before, journalOf, acceptedIn, Replayed, countsAs, playing, afterEntry, Plays}
+use Rattle.register.specs.Journal.{JournalEntry, says, nothing, entryOf, entryAt, before, journalOf, acceptedIn, Replayed, countsAs, playing, afterEntry, Plays}
 
 -- ---- one entry
-pub entered : {ws : List ℕ} {e : Entry} {call : Call} {n : ℕ} {r : Played} {words : List ℕ} → e ≡ says call → Exported (step ws call) n words
+pub entered : {ws : List ℕ} {e : JournalEntry} {call : Call} {n : ℕ} {r : Played} {words : List ℕ} → e ≡ says call → Exported (step ws call) n words
     → r ≡ countsAs n → Plays ws e r words
 entered {ws} {call = call} f p q = record {
   counted = q ∙ ap countsAs (p .number) ∙ ap (λ t. Counts (is t)) (told-zero ws call) ∙ ap (playing ws) (sym f);
   store = p .store ∙ ap (afterEntry ws) (sym f);
 }
 
-pub passed : {ws : List ℕ} {e : Entry} {r : Played} → e ≡ nothing → r ≡ Ends → Plays ws e r ws
+pub passed : {ws : List ℕ} {e : JournalEntry} {r : Played} → e ≡ nothing → r ≡ Ends → Plays ws e r ws
 passed {ws} f q = record { counted = q ∙ ap (playing ws) (sym f); store = ap (afterEntry ws) (sym f) }
 
 -- which entry a kind makes
@@ -94,7 +94,7 @@ record Next (store store′ : List ℕ) (one : ℕ) (l rest : List Call) : Type 
   count : length l ≡ 1 + length rest
   heard : acceptedIn (trace store l) ≡ one + acceptedIn (trace store′ rest)
 
-heard-next : {store store′ : List ℕ} {one : ℕ} {l rest : List Call} (e : Entry) → Counts one ≡ playing store e → store′ ≡ afterEntry store e
+heard-next : {store store′ : List ℕ} {one : ℕ} {l rest : List Call} (e : JournalEntry) → Counts one ≡ playing store e → store′ ≡ afterEntry store e
     → l ≡ before e rest → Next store store′ one l rest
 heard-next {store} {store′} {one} {l} {rest} (says c) t w f =
     let n : one ≡ is (accepted (step store c .answer)) = cc in
@@ -107,7 +107,7 @@ heard-next {store} {store′} {one} {l} {rest} (says c) t w f =
     }
 heard-next nothing t w f = let z : _≡_ {A = ℕ} 0 1 = cc in absurd (omega arith)
 
-other-next : {store store′ : List ℕ} {l : List Call} (e : Entry) (rest : List Call) → Ends ≡ playing store e → store′ ≡ afterEntry store e → l ≡ before e rest
+other-next : {store store′ : List ℕ} {l : List Call} (e : JournalEntry) (rest : List Call) → Ends ≡ playing store e → store′ ≡ afterEntry store e → l ≡ before e rest
     → (store′ ≡ store) × (l ≡ [])
 other-next (says c) rest t w f = let z : _≡_ {A = ℕ} 0 1 = cc in absurd (omega arith)
 other-next nothing rest t w f = (w, f)

@@ -38,7 +38,8 @@ pub extern "C" fn register_start(
     blocks: u32,
     tags: u32,
 ) -> u32
-    ensures { λ r. ⌜ Exported (step (now (store .entry)) (Start (settingsOf block useful blocks tags))) r (now (store .exit)) ⌝ }
+    ensures { λ r. ⌜ Exported (step (now (store .entry)) (Start (settingsOf block useful blocks tags))) r
+        (now (store .exit)) ⌝ }
 {
     let change = changes::start(store, Settings::asked(block, useful, blocks, tags));
     number(change)
@@ -96,7 +97,8 @@ pub extern "C" fn register_look_back(
     list: &mut [u32],
     answer: &mut [u32; 6],
 ) -> u32
-    ensures { λ r. ⌜ ExportedLookBack (now (store .entry)) second (now (rows .entry)) (now (list .entry)) (now (answer .entry)) r (now (rows .exit)) (now (list .exit)) (now (answer .exit)) ⌝ }
+    ensures { λ r. ⌜ ExportedLookBack (now (store .entry)) second (now (rows .entry))
+        (now (list .entry)) (now (answer .entry)) r (now (rows .exit)) (now (list .exit)) (now (answer .exit)) ⌝ }
 {
     let looked = timeslice::look_back(store, second, rows, list);
     match looked {
@@ -123,7 +125,8 @@ pub extern "C" fn register_words(block: u32, useful: u32, blocks: u32, tags: u32
 // A store rebuilt from a journal: the entries read, and how many of these were accepted.
 #[no_mangle]
 pub extern "C" fn register_replay(store: &mut [u32], journal: &[u32], answer: &mut [u64; 2])
-    ensures { λ _. ⌜ ExportedReplay (now (store .entry)) (now (journal .entry)) (now (answer .entry)) (now (store .exit)) (now (answer .exit)) ⌝ }
+    ensures { λ _. ⌜ ExportedReplay (now (store .entry))
+        (now (journal .entry)) (now (answer .entry)) (now (store .exit)) (now (answer .exit)) ⌝ }
     ensures { λ _. ⌜ Rebuilt (now (store .entry)) (now (journal .entry)) (now (store .exit)) ⌝ }
 {
     let tally = replay(store, journal);

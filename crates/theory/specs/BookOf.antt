@@ -15,7 +15,7 @@ use Rattle.base.specs.Ones.{Lists, none, more}
 use Rattle.layout.specs.declared.settings.Settings.{Settings}
 use Rattle.layout.specs.Sizes.{OPEN}
 use Rattle.calls.specs.Book.{Entry, Block, Book, opensAt, onBlock, closesAt, appends, endsTag, endsIn, standingTags, entriesOf, lastOf, holds, holderOf, recordsIn}
-use Rattle.theory.specs.Row.{Unlinked, Opened, View}
+use Rattle.theory.specs.Row.{Unlinked, Opened, BlockView}
 use Rattle.theory.specs.Records.{Record, Records, endedAt, begunAt, Apart, place?, PutAt, Emptied}
 use Rattle.theory.specs.State.{Shape, relinkedShape, rewritten, appended, openedShape}
 use Rattle.theory.specs.BookLaws.{noted, tabulate, tabulate-none, tabulate-same, tabulate-more, ended-table, ends-table, on-table, opens-table}
@@ -67,7 +67,7 @@ pub full-size : (b : ℕ) (S : Shape) (n : ℕ) → n ≢ S .opened → sizeOf b
 full-size b S n d = rw (ne-eqb n (S .opened) d)
 
 -- ---- a block opens
-pub book-opens : (b : ℕ) (S : Shape) {w : View} {records : Records} {now : ℕ} → Opened (S .view) w (S .opened) now → Emptied (S .records) records (S .opened + 1)
+pub book-opens : (b : ℕ) (S : Shape) {w : BlockView} {records : Records} {now : ℕ} → Opened (S .view) w (S .opened) now → Emptied (S .records) records (S .opened + 1)
     → (1 ≤ S .opened → S .fill ≡ b) → blocksOf b (openedShape S w (S .times) records (S .marks)) ≡ opensAt now (blocksOf b S)
 book-opens b S {w} {records} {now} e m full = opens-table (S .opened) now old last
   where
@@ -137,7 +137,7 @@ book-moves b S {records = records} {x} {k} {now} some o c e p =
     (λ y. entry-same S (appended S records (S .marks) (S .directory)) m j refl (p .other m j d ∙ e .other m j y)))
 
 -- ---- a block closes: all that stood in it ends
-pub book-closes : (b : ℕ) (S : Shape) {w : View} {x now : ℕ} → Unlinked (S .view) w x now → now < OPEN → 1 ≤ x
+pub book-closes : (b : ℕ) (S : Shape) {w : BlockView} {x now : ℕ} → Unlinked (S .view) w x now → now < OPEN → 1 ≤ x
     → blocksOf b (relinkedShape S w) ≡ onBlock (x - 1) (closesAt now) (blocksOf b S)
 book-closes b S {w} {x} {now} e ends some =
     let T = relinkedShape S w in

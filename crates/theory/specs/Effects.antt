@@ -17,7 +17,7 @@ use Rattle.layout.specs.Memory.{Memory}
 use Rattle.layout.specs.Program.{runOn}
 use Rattle.layout.specs.declared.settings.Settings.{Settings}
 use Rattle.calls.specs.Placing.{enterTime, openBlock, unlink, placeOf, endRecord, putRecord}
-use Rattle.theory.specs.Row.{Put, Unlinked, Opened, View}
+use Rattle.theory.specs.Row.{Put, Unlinked, Opened, BlockView}
 use Rattle.theory.specs.RunLaws.{met, _then_, Only, framed}
 use Rattle.theory.specs.Records.{Records, endedAt, PutAt, Emptied}
 use Rattle.theory.specs.Marks.{Marks, PutBit, apart-false, bit-on, bit-out}
@@ -27,7 +27,7 @@ abbrev pub withFirst : ℕ → (ℕ → ℕ) → ℕ → ℕ
 withFirst z g n = cond (eqb n 0) z (g n)
 
 -- the links of a memory, with block 0's last child and right from the head; block 0 never closes
-abbrev pub viewOf : ℕ → ℕ → Memory → View
+abbrev pub viewOf : ℕ → ℕ → Memory → BlockView
 viewOf child right f = record {
   opened = λ n. f (Field n openedWord);
   closed = withFirst OPEN (λ n. f (Field n closedWord));
@@ -37,7 +37,7 @@ viewOf child right f = record {
   right = withFirst right (λ n. f (Field n rightWord));
 }
 
-abbrev pub view : Cursor → Memory → View
+abbrev pub view : Cursor → Memory → BlockView
 view c f = viewOf (c .child) (c .right) f
 
 -- a block's closed word is what the view has
@@ -124,7 +124,7 @@ open-effect c f now =
     let N = c .opened in
     let g = (runOn (enterTime N now) f) .1 in
     let some : 1 ≤ N + 1 = omega arith in
-    subst (λ (v : View). Opened v (view ((runOn (openBlock c now) f) .0) ((runOn (openBlock c now) f) .1)) N now)
+    subst (λ (v : BlockView). Opened v (view ((runOn (openBlock c now) f) .0) ((runOn (openBlock c now) f) .1)) N now)
     (enter-view (c .child) (c .right) N now f)
     (cond-all (λ (z : Cursor × Memory). Opened (view c g) (view (z .0) (z .1)) N now) (eqb N 0)
     (λ e.

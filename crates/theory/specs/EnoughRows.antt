@@ -4,7 +4,7 @@ use native.Mathlib.Omega.{arith}
 use native.Mathlib.Numerals.{add-one}
 use lib.ListN.{length}
 use Rattle.base.specs.Sums.{total, totals, total-length, upto, upto-suc}
-use Rattle.theory.specs.Row.{View}
+use Rattle.theory.specs.Row.{BlockView}
 use Rattle.theory.specs.Records.{Records, Stands, Kept}
 use Rattle.theory.specs.Moving.{AtLeast, enough, another}
 use Rattle.theory.specs.MemberLaws.{upto-grows, total-joined}
@@ -19,7 +19,7 @@ at-least-weighs {lo = lo} w b below heavy (another {k = k} {m} a c u) h =
     let r : upto w (suc k) + m ≤ upto w b = rw add-one at (at-least-weighs w b below heavy u (omega arith)) in
     omega (arith, heavy k c, upto-grows w lo k a, upto-suc w k)
 
-pub rows-enough : {R : Records} {v : View} {b tags N fill clock t n q : ℕ} → Kept R v b tags N fill clock → AtLeast (λ k. Stands t (R n k)) 0 q
+pub rows-enough : {R : Records} {v : BlockView} {b tags N fill clock t n q : ℕ} → Kept R v b tags N fill clock → AtLeast (λ k. Stands t (R n k)) 0 q
     → q ≤ length (standingRows b t (R n))
 unfolding standingRows
 rows-enough {R} {b = b} {t = t} {n} kept u =

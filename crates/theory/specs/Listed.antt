@@ -16,7 +16,7 @@ use Rattle.layout.specs.Sizes.{OPEN}
 use Rattle.calls.specs.Calls.{Row}
 use Rattle.calls.specs.Walk.{Reader, neighbour}
 use Rattle.theory.specs.FoundWalk.{closedOf, upOf, rowsIn, Visit, none, stop, deep, Path, top, step, leftOf, childOf}
-use Rattle.theory.specs.Row.{View, Tree, leaf, node}
+use Rattle.theory.specs.Row.{BlockView, Tree, leaf, node}
 
 -- ---- no block twice
 
@@ -132,7 +132,7 @@ module _ (b t : ℕ) (R : Reader) where
 
 -- ---- over trees: a tree's root closed last, so where it closed by t all under it did
 -- a reader hands out the view's closing and links: of block 0 the last child, of blocks 1 to N all four
-pub record Agree (R : Reader) (v : View) (N : ℕ) : Type 0 where
+pub record Agree (R : Reader) (v : BlockView) (N : ℕ) : Type 0 where
   pub root : R .root ≡ v .child 0
   pub closed : (n : ℕ) → 0 < n → n ≤ N → closedOf R n ≡ v .closed n
   pub up : (n : ℕ) → 0 < n → n ≤ N → upOf R n ≡ v .up n
@@ -140,12 +140,12 @@ pub record Agree (R : Reader) (v : View) (N : ℕ) : Type 0 where
   pub child : (n : ℕ) → 0 < n → n ≤ N → childOf R n ≡ v .child n
 
 -- what a path asks of its block: an up below it that closes no earlier, and a tree between, under the left neighbour
-pub record Rooted (R : Reader) (v : View) (n : ℕ) : Type 0 where
+pub record Rooted (R : Reader) (v : BlockView) (n : ℕ) : Type 0 where
   pub lower : v .up n < n
   pub tree : Tree v (v .up n) n (neighbour R n)
   pub climbs : v .closed n ≤ v .closed (v .up n)
 
-module _ {R : Reader} {v : View} {N : ℕ} (a : Agree R v N) where
+module _ {R : Reader} {v : BlockView} {N : ℕ} (a : Agree R v N) where
   -- The left neighbour of an open block is its up's last child, that of a closed block its left.
   neighbour-open : (n : ℕ) → 0 < n → n ≤ N → v .up n < n → v .closed n ≡ OPEN → neighbour R n ≡ v .child (v .up n)
   unfolding neighbour
@@ -166,7 +166,7 @@ module _ {R : Reader} {v : View} {N : ℕ} (a : Agree R v N) where
       → Tree v (v .up n) n (v .left n) → Rooted R v n
   rooted-closed n p q o u c x = record { lower = u; tree = rw (neighbour-closed n p q o) x; climbs = c }
 
-module _ (b t : ℕ) {R : Reader} {v : View} {N : ℕ} (a : Agree R v N) where
+module _ (b t : ℕ) {R : Reader} {v : BlockView} {N : ℕ} (a : Agree R v N) where
   -- a visit between lo and hi that takes in all blocks there
   pub record WholeVisit (lo hi n : ℕ) : Type 0 where
     pub rows : List Row

@@ -32,12 +32,12 @@ use Rattle.theory.specs.FoundWalk.{rowsIn}
 use Rattle.theory.specs.Listed.{Agree, Rooted, rooted-open, rooted-closed}
 use Rattle.theory.specs.Right.{LookSound, allWeigh, all-weigh-is}
 use Rattle.theory.specs.Stored.{Stored, stored-at}
-use Rattle.theory.specs.Row.{Linked, View}
+use Rattle.theory.specs.Row.{Linked, BlockView}
 use Rattle.theory.specs.Times.{Indexed}
 use Rattle.theory.specs.SearchLaws.{entry, levels-hold}
 
 -- ---- what links and index say: every block is rooted, stays open until the next opens, and the pages hold the entries
-module _ {v : View} {N clock : ℕ} (i : Linked v N clock) where
+module _ {v : BlockView} {N clock : ℕ} (i : Linked v N clock) where
   pub linked-rooted : {R : Reader} → Agree R v N → (n : ℕ) → 0 < n → n ≤ N → Rooted R v n
   linked-rooted a n p q = is? (v .closed n) OPEN
       (λ o. let x = i .row n p q o in rooted-open a n p q o (x .up) (x .stands) (x .tree))
@@ -106,7 +106,7 @@ module _ {ws : List ℕ} {h : Head} {f : Memory} (i : Stored ws h f) where
     abbrev N : ℕ
     N = h .cursor .opened
 
-    abbrev v : View
+    abbrev v : BlockView
     v = view (h .cursor) f
 
     numbered : (n : ℕ) → 0 < n → n ≤ N → Numbered (h .settings) n

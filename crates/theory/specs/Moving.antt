@@ -22,7 +22,7 @@ use Rattle.layout.specs.Fields.{tagWord, readingWord}
 use Rattle.layout.specs.Memory.{Memory}
 use Rattle.layout.specs.Program.{runOn}
 use Rattle.calls.specs.Placing.{placeOf, unlink, endRecord, putRecord, moveRecord}
-use Rattle.theory.specs.Row.{Unlinked, Opened, Put, View}
+use Rattle.theory.specs.Row.{Unlinked, Opened, Put, BlockView}
 use Rattle.theory.specs.Records.{Record, Records, Stands, endedAt, begunAt, place?, PutAt, Emptied}
 use Rattle.theory.specs.Timeline.{Timeline, told-alike, moved-log}
 use Rattle.theory.specs.Marks.{Marks, PutBit, Pending, no-more, one-more, pending-frame}
@@ -82,7 +82,7 @@ module _ {s : Settings} where
   }
 
   -- a block opens: the one before it is to be judged
-  pub useful-open : {now : ℕ} {S : Shape} {w : View} {records : Records} {marks : Marks} {times : ℕ → ℕ → ℕ} → Useful s 0 0 S
+  pub useful-open : {now : ℕ} {S : Shape} {w : BlockView} {records : Records} {marks : Marks} {times : ℕ → ℕ → ℕ} → Useful s 0 0 S
       → Opened (S .view) w (S .opened) now → Emptied (S .records) records (S .opened + 1)
       → Useful s (S .opened) now (openedShape S w times records marks)
   useful-open {now} {S} {w} u e m = record {
@@ -94,7 +94,7 @@ module _ {s : Settings} where
   }
 
   -- judged, it closes: from then on it is not open
-  pub useful-close : {x now : ℕ} {S : Shape} {w : View} → Useful s x now S → Unlinked (S .view) w x now → S .view .closed x ≡ OPEN
+  pub useful-close : {x now : ℕ} {S : Shape} {w : BlockView} → Useful s x now S → Unlinked (S .view) w x now → S .view .closed x ≡ OPEN
       → Useful s 0 0 (relinkedShape S w)
   useful-close {x} {now} {S} {w} u e o = record {
     at = λ t n a b d f g h. is? n x

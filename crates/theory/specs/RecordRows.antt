@@ -17,7 +17,7 @@ use Rattle.layout.specs.Parts.{slotWord}
 use Rattle.calls.specs.Calls.{Row}
 use Rattle.calls.specs.Log.{Log, stateAt}
 use Rattle.calls.specs.Walk.{rowOf, rowsOf}
-use Rattle.theory.specs.Row.{View}
+use Rattle.theory.specs.Row.{BlockView}
 use Rattle.theory.specs.Records.{Record, Records, Stands, Kept}
 use Rattle.theory.specs.Timeline.{Timeline, Told, Reading, some}
 use Rattle.theory.specs.MemberLaws.{unique-nil, Among, all-members, same-members, sumTo-below, joined, joined-nil, total-joined, joined-members, members-joined, unique-joined}
@@ -150,7 +150,7 @@ module _ {R : Records} {log : Timeline} (told : Told R log) (b N t : ℕ) (o : t
       let s = one-place (from-record t _ x (k .member)) (from-record t _ y (i .member)) e .0 in
       omega arith)
 
-module _ {R : Records} {v : View} {b tags N fill clock : ℕ} (kept : Kept R v b tags N fill clock) (t : ℕ) where
+module _ {R : Records} {v : BlockView} {b tags N fill clock : ℕ} (kept : Kept R v b tags N fill clock) (t : ℕ) where
   -- All tags are below D.
   pub rows-known : total (λ r. is (leb tags (r .tag))) (rowsAt b N t R) ≡ 0
   rows-known = total-none _ (all-members (rowsAt b N t R) (λ x i.

@@ -8,7 +8,7 @@ use Rattle.base.specs.Branch.{is?}
 use Rattle.layout.specs.Sizes.{OPEN}
 use Rattle.layout.specs.declared.settings.Settings.{Settings}
 use Rattle.calls.specs.Placing.{placeOf}
-use Rattle.theory.specs.Row.{Unlinked, Opened, Put, View}
+use Rattle.theory.specs.Row.{Unlinked, Opened, Put, BlockView}
 
 pub record Record : Type 0 where
   pub tag : ℕ
@@ -58,7 +58,7 @@ pub record Placed (N fill b n k : ℕ) : Type 0 where
   pub last : n ≡ N → k < fill
 
 -- a record of block n: it begins in its block's time, and one that has ended did so by its block's closing
-pub record Good (v : View) (tags clock n : ℕ) (r : Record) : Type 0 where
+pub record Good (v : BlockView) (tags clock n : ℕ) (r : Record) : Type 0 where
   pub known : r .tag < tags
   pub early : v .opened n ≤ r .from
   pub begun : r .from ≤ clock
@@ -66,12 +66,12 @@ pub record Good (v : View) (tags clock n : ℕ) (r : Record) : Type 0 where
   pub ended : r .to ≢ OPEN → (r .to ≤ clock) × (r .to ≤ v .closed n)
 
 -- every placed record is good, and a slot that is not placed was never used
-pub record Kept (f : Records) (v : View) (b tags N fill clock : ℕ) : Type 0 where
+pub record Kept (f : Records) (v : BlockView) (b tags N fill clock : ℕ) : Type 0 where
   pub good : (n k : ℕ) → Placed N fill b n k → Good v tags clock n (f n k)
   pub used : (n k : ℕ) → 0 < f n k .to → Placed N fill b n k
 
 -- time passes
-pub good-later : {v : View} {tags clock now n : ℕ} {r : Record} → Good v tags clock n r → clock ≤ now → Good v tags now n r
+pub good-later : {v : BlockView} {tags clock now n : ℕ} {r : Record} → Good v tags clock n r → clock ≤ now → Good v tags now n r
 good-later g l = record {
   known = g .known;
   early = g .early;
@@ -80,11 +80,11 @@ good-later g l = record {
   ended = λ d. let e = g .ended d in (omega arith, e .1);
 }
 
-pub kept-later : {f : Records} {v : View} {b tags N fill clock now : ℕ} → Kept f v b tags N fill clock → clock ≤ now → Kept f v b tags N fill now
+pub kept-later : {f : Records} {v : BlockView} {b tags N fill clock now : ℕ} → Kept f v b tags N fill clock → clock ≤ now → Kept f v b tags N fill now
 kept-later i l = record { good = λ n k p. good-later (i .good n k p) l; used = i .used }
 
 -- a record is placed in the acceptor's next slot
-pub kept-put : {f g : Records} {v : View} {b tags N fill clock now : ℕ} {r : Record} → Kept f v b tags N fill clock → PutAt f g N fill r → clock ≤ now
+pub kept-put : {f g : Records} {v : BlockView} {b tags N fill clock now : ℕ} {r : Record} → Kept f v b tags N fill clock → PutAt f g N fill r → clock ≤ now
     → r .from ≡ now → r .to ≡ OPEN → r .tag < tags → v .opened N ≤ clock → 1 ≤ N → fill < b → now < OPEN → Kept g v b tags N (fill + 1) now
 kept-put {N = N} {fill} i e later from to known opened some room ends = record {
   good = λ n k p. place? N fill n k
@@ -101,7 +101,7 @@ kept-put {N = N} {fill} i e later from to known opened some room ends = record {
 }
 
 -- a record that stands ends, not after its block's closing
-pub kept-end : {f g : Records} {v : View} {b tags N fill clock n k now : ℕ} → Kept f v b tags N fill clock → PutAt f g n k (endedAt now (f n k))
+pub kept-end : {f g : Records} {v : BlockView} {b tags N fill clock n k now : ℕ} → Kept f v b tags N fill clock → PutAt f g n k (endedAt now (f n k))
     → clock ≤ now → now ≤ v .closed n → f n k .to ≡ OPEN → now < OPEN → Kept g v b tags N fill now
 kept-end {f} {v = v} {tags = tags} {clock = clock} {n} {k} i e later closes stands ends = record {
   good = λ m j p.
@@ -123,7 +123,7 @@ kept-end {f} {v = v} {tags = tags} {clock = clock} {n} {k} i e later closes stan
 }
 
 -- a block leaves the row: its records ended before
-pub kept-unlink : {f : Records} {v w : View} {b tags N fill clock x now : ℕ} → Kept f v b tags N fill clock → Unlinked v w x now → clock ≤ now
+pub kept-unlink : {f : Records} {v w : BlockView} {b tags N fill clock x now : ℕ} → Kept f v b tags N fill clock → Unlinked v w x now → clock ≤ now
     → Kept f w b tags N fill now
 kept-unlink {w = w} {x = x} {now} i e later = record {
   used = i .used;
@@ -145,7 +145,7 @@ kept-unlink {w = w} {x = x} {now} i e later = record {
 }
 
 -- a block opens once the acceptor is full
-pub kept-open : {f g : Records} {v w : View} {b tags N fill clock now : ℕ} → Kept f v b tags N fill clock → Opened v w N now → Emptied f g (N + 1)
+pub kept-open : {f g : Records} {v w : BlockView} {b tags N fill clock now : ℕ} → Kept f v b tags N fill clock → Opened v w N now → Emptied f g (N + 1)
     → (1 ≤ N → fill ≡ b) → clock ≤ now → Kept g w b tags (N + 1) 0 now
 kept-open {g = g} {N = N} i e m full later = record {
   good = λ n k p.

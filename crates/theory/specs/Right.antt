@@ -17,7 +17,7 @@ use Rattle.layout.specs.Head.{headOf}
 use Rattle.calls.specs.Calls.{Row}
 use Rattle.calls.specs.Walk.{Reader, Pass, entries, looked, look}
 use Rattle.calls.specs.LookBack.{reader, lookAt, isUnsound}
-use Rattle.theory.specs.Row.{View}
+use Rattle.theory.specs.Row.{BlockView}
 use Rattle.theory.specs.FoundWalk.{closedOf, rowsIn, Search, looks}
 use Rattle.theory.specs.Listed.{Apart, apart-wider, path-apart, outlasts, Late, late-outlasts, path-half, rowsWeigh, path-rows, Agree, Rooted, WholePath, whole-path}
 use Rattle.theory.specs.SearchLaws.{entry, finds}
@@ -31,10 +31,10 @@ unfolding allWeigh rowsWeigh
 all-weigh-is b N t R w = refl
 
 -- the blocks open at t: opened ≤ t < closed
-unfoldable pub blocksOpen : ℕ → ℕ → View → ℕ
+unfoldable pub blocksOpen : ℕ → ℕ → BlockView → ℕ
 blocksOpen N t v = sumTo N (λ n. is (leb (v .opened n) t && ltb t (v .closed n)))
 
-pub record LookSound (b d N t : ℕ) (R : Reader) (v : View) : Type 0 where
+pub record LookSound (b d N t : ℕ) (R : Reader) (v : BlockView) : Type 0 where
   pub few : N ≤ 4096
   -- the reader hands out the view
   pub agree : Agree R v N
@@ -52,7 +52,7 @@ pub record LookSound (b d N t : ℕ) (R : Reader) (v : View) : Type 0 where
   pub known : allWeigh b N t R (λ r. is (leb d (r .tag))) ≡ 0
   pub once : (tag : ℕ) → allWeigh b N t R (λ r. is (eqb tag (r .tag))) ≤ 1
 
-pub record RightLook (b N t : ℕ) (R : Reader) (v : View) (rows : List Row) (list : List ℕ) : Type 0 where
+pub record RightLook (b N t : ℕ) (R : Reader) (v : BlockView) (rows : List Row) (list : List ℕ) : Type 0 where
   -- the rows are those of all blocks, order aside, and each tag once
   pub sum : (w : Row → ℕ) → total w rows ≡ allWeigh b N t R w
   pub once : (tag : ℕ) → keyed (λ r. r .tag) tag rows ≤ 1
@@ -62,14 +62,14 @@ pub record RightLook (b N t : ℕ) (R : Reader) (v : View) (rows : List Row) (li
   pub dense : (q : ℕ) → ((n : ℕ) → 0 < n → n < N → v .opened (n + 1) ≤ t → t < v .closed n → q ≤ length (rowsIn b t R n))
       → blocksOpen N t v * q ≤ length rows + q
 
-pub record LookAnswered (b d N t : ℕ) (R : Reader) (v : View) : Type 0 where
+pub record LookAnswered (b d N t : ℕ) (R : Reader) (v : BlockView) : Type 0 where
   pub rows : List Row
   pub list : List ℕ
   pub pages : List Pass
   pub seen : look b d N t R ≡ looked rows list pages
   pub right : RightLook b N t R v rows list
 
-module _ {b d N t : ℕ} {R : Reader} {v : View} (s : LookSound b d N t R v) where
+module _ {b d N t : ℕ} {R : Reader} {v : BlockView} (s : LookSound b d N t R v) where
   late : (w : Row → ℕ) → Late t R N (rowsWeigh b t R w)
   unfolding Late rowsWeigh
   late w n i j h = rw (s .ended n i j (omega (arith, s .agree .closed n i j))) (total-nil w)
@@ -180,7 +180,7 @@ module _ {b d N t : ℕ} {R : Reader} {v : View} (s : LookSound b d N t R v) whe
       rw (i, j) at (x .right)
 
 -- said of the words: the walk is sound, and what it finds is right
-module _ (ws : List ℕ) {t : ℕ} {v : View}
+module _ (ws : List ℕ) {t : ℕ} {v : BlockView}
     (s : LookSound (headOf ws .settings .block) (headOf ws .settings .tags) (headOf ws .cursor .opened) t (reader ws) v) where
   pub walk-sound : isUnsound (lookAt ws t) ≡ false
   unfolding lookAt

@@ -9,7 +9,7 @@ use Rattle.base.specs.Branch.{cmp?, is?}
 use Rattle.layout.specs.Sizes.{OPEN}
 
 -- the seconds and links by block number; block 0 never closes, and has its two links in the head
-pub record View : Type 0 where
+pub record BlockView : Type 0 where
   pub opened : ℕ → ℕ
   pub closed : ℕ → ℕ
   pub up : ℕ → ℕ
@@ -18,25 +18,25 @@ pub record View : Type 0 where
   pub right : ℕ → ℕ
 
 -- the closed blocks strictly between lo and hi, under c; c is 0 if there are none
-pub data Tree (v : View) : ℕ → ℕ → ℕ → Type 0 where
+pub data Tree (v : BlockView) : ℕ → ℕ → ℕ → Type 0 where
   leaf : {lo hi c : ℕ} → c ≡ 0 → hi ≡ lo + 1 → Tree v lo hi c
   node : {lo hi c : ℕ} → lo < c → c < hi → v .closed c ≢ OPEN → v .up c ≡ lo → ((m : ℕ) → lo < m → m < hi → v .closed m ≤ v .closed c)
       → Tree v c hi (v .child c) → Tree v lo c (v .left c) → Tree v lo hi c
 
 -- every block in a tree's span is closed
-pub tree-closed : {v : View} {lo hi c : ℕ} → Tree v lo hi c → (m : ℕ) → lo < m → m < hi → v .closed m ≢ OPEN
+pub tree-closed : {v : BlockView} {lo hi c : ℕ} → Tree v lo hi c → (m : ℕ) → lo < m → m < hi → v .closed m ≢ OPEN
 tree-closed (leaf z e) m a b = absurd (omega arith)
 tree-closed {v} (node {c = c} p q o u h k l) m a b = cmp? m c (λ x. tree-closed l m a x) (λ e. rw e o) (λ x. tree-closed k m x b)
 
 -- two views alike at block m
-pub record AlikeAt (v w : View) (m : ℕ) : Type 0 where
+pub record AlikeAt (v w : BlockView) (m : ℕ) : Type 0 where
   pub closed : w .closed m ≡ v .closed m
   pub up : w .up m ≡ v .up m
   pub left : w .left m ≡ v .left m
   pub child : w .child m ≡ v .child m
 
 -- only the blocks in the span matter
-pub tree-frame : {v w : View} {lo hi c : ℕ} → ((m : ℕ) → lo < m → m < hi → AlikeAt v w m) → Tree v lo hi c → Tree w lo hi c
+pub tree-frame : {v w : BlockView} {lo hi c : ℕ} → ((m : ℕ) → lo < m → m < hi → AlikeAt v w m) → Tree v lo hi c → Tree w lo hi c
 tree-frame h (leaf z e) = leaf z e
 tree-frame h (node {c = c} p q o u b k l) =
     let a = h c p q in
@@ -46,21 +46,21 @@ tree-frame h (node {c = c} p q o u b k l) =
 
 -- ---- the row
 -- an open block hangs to the right of an open one; between them is a tree
-pub record InRow (v : View) (n : ℕ) : Type 0 where
+pub record InRow (v : BlockView) (n : ℕ) : Type 0 where
   pub up : v .up n < n
   pub stands : v .closed (v .up n) ≡ OPEN
   pub back : v .right (v .up n) ≡ n
   pub tree : Tree v (v .up n) n (v .child (v .up n))
 
 -- an open block but the last has an open one to its right
-pub record Next (v : View) (N n : ℕ) : Type 0 where
+pub record Next (v : BlockView) (N n : ℕ) : Type 0 where
   pub stands : v .closed (v .right n) ≡ OPEN
   pub above : n < v .right n
   pub below : v .right n ≤ N
   pub back : v .up (v .right n) ≡ n
 
 -- a closed block: it closed after the next had opened, and under its up, over a tree of blocks that closed no later
-pub record Shut (v : View) (N clock n : ℕ) : Type 0 where
+pub record Shut (v : BlockView) (N clock n : ℕ) : Type 0 where
   pub inner : n < N
   pub after : v .opened (n + 1) ≤ v .closed n
   pub past : v .closed n ≤ clock
@@ -70,7 +70,7 @@ pub record Shut (v : View) (N clock n : ℕ) : Type 0 where
   pub under : v .closed n ≤ v .closed (v .up n)
 
 -- the links of N blocks, none opened or closed after the clock; block N is open and has no child
-pub record Linked (v : View) (N clock : ℕ) : Type 0 where
+pub record Linked (v : BlockView) (N clock : ℕ) : Type 0 where
   pub first : v .closed 0 ≡ OPEN
   pub last : v .closed N ≡ OPEN
   pub childless : v .child N ≡ 0
@@ -80,14 +80,14 @@ pub record Linked (v : View) (N clock : ℕ) : Type 0 where
   pub shut : (n : ℕ) → n ≤ N → v .closed n ≢ OPEN → Shut v N clock n
 
 -- ---- the same, said of numbers that the links are
-in-row : {w : View} {n up child : ℕ} → w .up n ≡ up → up < n → w .closed up ≡ OPEN → w .right up ≡ n → w .child up ≡ child
+in-row : {w : BlockView} {n up child : ℕ} → w .up n ≡ up → up < n → w .closed up ≡ OPEN → w .right up ≡ n → w .child up ≡ child
     → Tree w up n child → InRow w n
 in-row u a b d k t = record { up = rw u a; stands = rw u b; back = rw u d; tree = rw (u, k) t }
 
-next-is : {w : View} {N n right : ℕ} → w .right n ≡ right → w .closed right ≡ OPEN → n < right → right ≤ N → w .up right ≡ n → Next w N n
+next-is : {w : BlockView} {N n right : ℕ} → w .right n ≡ right → w .closed right ≡ OPEN → n < right → right ≤ N → w .up right ≡ n → Next w N n
 next-is r a b c d = record { stands = rw r a; above = rw r b; below = rw r c; back = rw r d }
 
-shut-is : {w : View} {N clock n closed up left : ℕ} → w .closed n ≡ closed → w .up n ≡ up → w .left n ≡ left → n < N → w .opened (n + 1) ≤ closed
+shut-is : {w : BlockView} {N clock n closed up left : ℕ} → w .closed n ≡ closed → w .up n ≡ up → w .left n ≡ left → n < N → w .opened (n + 1) ≤ closed
     → closed ≤ clock → up < n → Tree w up n left → ((m : ℕ) → up < m → m < n → w .closed m ≤ closed) → closed ≤ w .closed up → Shut w N clock n
 shut-is c u l i a b d t h k = record {
   inner = i;
@@ -105,7 +105,7 @@ pub record Put (f g : ℕ → ℕ) (x y : ℕ) : Type 0 where
   pub other : (n : ℕ) → n ≢ x → g n ≡ f n
 
 -- ---- block x leaves the row at second now: it becomes the last child of its up, above what that was
-pub record Unlinked (v w : View) (x now : ℕ) : Type 0 where
+pub record Unlinked (v w : BlockView) (x now : ℕ) : Type 0 where
   pub opened : (n : ℕ) → w .opened n ≡ v .opened n
   pub closed : Put (v .closed) (w .closed) x now
   pub up : Put (v .up) (w .up) (v .right x) (v .up x)
@@ -113,7 +113,7 @@ pub record Unlinked (v w : View) (x now : ℕ) : Type 0 where
   pub left : Put (v .left) (w .left) x (v .child (v .up x))
   pub child : Put (v .child) (w .child) (v .up x) x
 
-module _ {v w : View} {N clock x now : ℕ} (i : Linked v N clock) (e : Unlinked v w x now) (some : 1 ≤ x) (inner : x < N) (open-x : v .closed x ≡ OPEN)
+module _ {v w : BlockView} {N clock x now : ℕ} (i : Linked v N clock) (e : Unlinked v w x now) (some : 1 ≤ x) (inner : x < N) (open-x : v .closed x ≡ OPEN)
     (later : clock ≤ now) (ends : now < OPEN) where
   row-x : InRow v x
   row-x = i .row x some (omega arith) open-x
@@ -209,7 +209,7 @@ module _ {v w : View} {N clock x now : ℕ} (i : Linked v N clock) (e : Unlinked
   }
 
 -- ---- block N + 1 opens at second now, to the right of block N
-pub record Opened (v w : View) (N now : ℕ) : Type 0 where
+pub record Opened (v w : BlockView) (N now : ℕ) : Type 0 where
   pub opened : Put (v .opened) (w .opened) (N + 1) now
   pub closed : Put (v .closed) (w .closed) (N + 1) OPEN
   pub up : Put (v .up) (w .up) (N + 1) N
@@ -218,7 +218,7 @@ pub record Opened (v w : View) (N now : ℕ) : Type 0 where
   pub right : w .right N ≡ N + 1
   pub rights : (n : ℕ) → n < N → w .right n ≡ v .right n
 
-module _ {v w : View} {N clock now : ℕ} (i : Linked v N clock) (e : Opened v w N now) (later : clock ≤ now) where
+module _ {v w : BlockView} {N clock now : ℕ} (i : Linked v N clock) (e : Opened v w N now) (later : clock ≤ now) where
   tree-still : {lo hi c : ℕ} → hi ≤ N → Tree v lo hi c → Tree w lo hi c
   tree-still l t = tree-frame (λ m a b.
       let d : m ≢ N + 1 = omega arith in
@@ -267,7 +267,7 @@ module _ {v w : View} {N clock now : ℕ} (i : Linked v N clock) (e : Opened v w
   }
 
 -- time passes
-pub later : {v : View} {N clock now : ℕ} → Linked v N clock → clock ≤ now → Linked v N now
+pub later : {v : BlockView} {N clock now : ℕ} → Linked v N clock → clock ≤ now → Linked v N now
 later i l = record {
   first = i .first;
   last = i .last;

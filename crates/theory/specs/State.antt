@@ -17,7 +17,7 @@ use Rattle.layout.specs.Settings.{Within}
 use Rattle.layout.specs.Memory.{Memory, put}
 use Rattle.layout.specs.Program.{runOn}
 use Rattle.calls.specs.Placing.{placeOf, openBlock, unlink, endRecord, putRecord}
-use Rattle.theory.specs.Row.{Linked, Unlinked, unlinked, opened, later, Put, View}
+use Rattle.theory.specs.Row.{Linked, Unlinked, unlinked, opened, later, Put, BlockView}
 use Rattle.theory.specs.Effects.{view, put-is, open-effect, recordsOf, directoryOf, marksOf, end-records, end-marks, put-records, put-directory}
 use Rattle.theory.specs.Effects.{put-marks, open-directory, open-marks-here, open-marks-other, open-records}
 use Rattle.theory.specs.Times.{Indexed, indexed-open, indexed-same, times, open-enters}
@@ -27,7 +27,7 @@ use Rattle.theory.specs.Timeline.{Timeline, Told, told-put, told-end, to
 use Rattle.theory.specs.Marks.{Marks, Marked, marked-at, marked-open, Pending, pending-slots, PutBit}
 
 pub record Shape : Type 0 where
-  pub view : View
+  pub view : BlockView
   pub times : ℕ → ℕ → ℕ
   pub records : Records
   pub marks : Marks
@@ -129,7 +129,7 @@ module _ {s : Settings} {Due : ℕ → Type 0} {clock : ℕ} {log : Timeline} {S
   state-later a b = state-as a b (i .told) (i .calm)
 
 -- ---- a block leaves the row: its records have still to move
-abbrev pub relinkedShape : Shape → View → Shape
+abbrev pub relinkedShape : Shape → BlockView → Shape
 relinkedShape S w = record {
   view = w;
   times = S .times;
@@ -155,7 +155,7 @@ rewritten S fill records marks directory = record {
 abbrev pub appended : Shape → Records → Marks → (ℕ → ℕ) → Shape
 appended S records marks directory = rewritten S (S .fill + 1) records marks directory
 
-abbrev pub openedShape : Shape → View → (ℕ → ℕ → ℕ) → Records → Marks → Shape
+abbrev pub openedShape : Shape → BlockView → (ℕ → ℕ → ℕ) → Records → Marks → Shape
 openedShape S w times records marks =
     record { view = w; times = times; records = records; marks = marks; directory = S .directory; opened = S .opened + 1; fill = 0 }
 
@@ -167,7 +167,7 @@ unlink-shape c x now f =
     (λ t. refl) (λ t. refl)
 
 module _ {s : Settings} where
-  pub left-row : {Due : ℕ → Type 0} {clock now x : ℕ} {log : Timeline} {S : Shape} {w : View} → State s Due clock log S → Unlinked (S .view) w x now
+  pub left-row : {Due : ℕ → Type 0} {clock now x : ℕ} {log : Timeline} {S : Shape} {w : BlockView} → State s Due clock log S → Unlinked (S .view) w x now
       → clock ≤ now → now < OPEN → 1 ≤ x → x < S .opened → S .view .closed x ≡ OPEN → State s (DueAnd Due x) now log (relinkedShape S w)
   left-row {x = x} i e a b low inner o = record {
     past = b;

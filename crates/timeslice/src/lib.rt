@@ -69,7 +69,8 @@ fn turned_away(words: usize, h: Head, second: u32, rows: usize, list: usize) -> 
 fn look(store: &[u32], h: Head, second: u32, rows: &mut [u32], list: &mut [u32]) -> WalkAnswer
     requires { ⌜ Readable (now store) h ⌝ }
     requires { ⌜ Buffers (h .settings) (now rows) (now list) ⌝ }
-    ensures { λ r. ⌜ WalkSays (lookAt (now (store .entry)) second) (now (rows .entry)) (now (list .entry)) r (now (rows .exit)) (now (list .exit)) ⌝ }
+    ensures { λ r. ⌜ WalkSays (lookAt (now (store .entry)) second)
+        (now (rows .entry)) (now (list .entry)) r (now (rows .exit)) (now (list .exit)) ⌝ }
 {
     let Searched::At(found) = index::search(store, h, second) else {
         return WalkAnswer::Unsound;
@@ -94,7 +95,8 @@ fn look(store: &[u32], h: Head, second: u32, rows: &mut [u32], list: &mut [u32])
 fn answer(store: &[u32], h: Head, second: u32, rows: &mut [u32], list: &mut [u32]) -> SliceAnswer
     requires { ⌜ Readable (now store) h ⌝ }
     requires { ⌜ Buffers (h .settings) (now rows) (now list) ⌝ }
-    ensures { λ r. ⌜ Answers (now (store .entry)) second (now (rows .entry)) (now (list .entry)) r (now (rows .exit)) (now (list .exit)) ⌝ }
+    ensures { λ r. ⌜ Answers (now (store .entry)) second
+        (now (rows .entry)) (now (list .entry)) r (now (rows .exit)) (now (list .exit)) ⌝ }
 {
     match look(store, h, second, rows, list) {
         WalkAnswer::Whole(slice) => SliceAnswer::Answered(slice),
@@ -108,7 +110,8 @@ fn answer(store: &[u32], h: Head, second: u32, rows: &mut [u32], list: &mut [u32
 
 // What stood at a second: its rows go into the one buffer, the reading list into the other. Refused for the first reason that applies, on any words.
 pub fn look_back(store: &[u32], second: u32, rows: &mut [u32], list: &mut [u32]) -> SliceAnswer
-    ensures { λ r. ⌜ LookedBack (now (store .entry)) second (now (rows .entry)) (now (list .entry)) r (now (rows .exit)) (now (list .exit)) ⌝ }
+    ensures { λ r. ⌜ LookedBack (now (store .entry)) second
+        (now (rows .entry)) (now (list .entry)) r (now (rows .exit)) (now (list .exit)) ⌝ }
 {
     match head::read_head(store) {
         HeadAnswer::Refused(n) => SliceAnswer::Refused(n),

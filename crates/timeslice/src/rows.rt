@@ -38,7 +38,8 @@ fn take_row(block: &[u32], k: u32, t: u32, s: Settings, rows: &mut [u32], given:
 // The rows of a block at t, in slot order, of all its slots.
 pub(crate) fn take_rows(block: &[u32], t: u32, s: Settings, rows: &mut [u32], given: u32) -> Took
     requires { ⌜ RowRoom s (now block) given (now rows) ⌝ }
-    ensures { λ r. ⌜ Takes (s .tags) (now (rows .entry)) given (rowsOf (s .block) t (now (block .entry))) r (now (rows .exit)) ⌝ }
+    ensures { λ r. ⌜ Takes (s .tags) (now (rows .entry)) given (rowsOf (s .block) t (now (block .entry))) r
+        (now (rows .exit)) ⌝ }
 {
     let mut k = 0;
     let mut so_far = given;

@@ -16,7 +16,8 @@ fn take_block(store: &[u32], s: Settings, number: u32, t: u32, rows: &mut [u32],
     requires { ⌜ Blocks (now store) s ⌝ }
     requires { ⌜ Numbered s number ⌝ }
     requires { ⌜ RowBuffer s given (now rows) ⌝ }
-    ensures { λ r. ⌜ Takes (s .tags) (now (rows .entry)) given (rowsAt (s .block) t (reader (now (store .entry))) number) r (now (rows .exit)) ⌝ }
+    ensures { λ r. ⌜ Takes (s .tags) (now (rows .entry)) given
+        (rowsAt (s .block) t (reader (now (store .entry))) number) r (now (rows .exit)) ⌝ }
 {
     let block = parts::block(store, s, number);
     if parts::block_word(block, fields::CLOSED) <= t {
@@ -37,7 +38,8 @@ pub(crate) fn take_listed(
     requires { ⌜ Blocks (now store) s ⌝ }
     requires { ⌜ All (Numbered s) (now listed) ⌝ }
     requires { ⌜ RowBuffer s given (now rows) ⌝ }
-    ensures { λ r. ⌜ Takes (s .tags) (now (rows .entry)) given (rowsIn (s .block) t (reader (now (store .entry))) (now (listed .entry))) r (now (rows .exit)) ⌝ }
+    ensures { λ r. ⌜ Takes (s .tags) (now (rows .entry)) given
+        (rowsIn (s .block) t (reader (now (store .entry))) (now (listed .entry))) r (now (rows .exit)) ⌝ }
 {
     let mut i = 0;
     let mut so_far = given;

@@ -55,7 +55,8 @@ fn enter(
 ) -> Entered
     requires { ⌜ Blocks (now store) s ⌝ }
     requires { ⌜ ListRoom s lower upper listed (now list) ⌝ }
-    ensures { λ r. ⌜ Enters s t (reader (now (store .entry))) lower upper number (now (list .entry)) listed r (now (list .exit)) ⌝ }
+    ensures { λ r. ⌜ Enters s t (reader (now (store .entry))) lower upper number
+        (now (list .entry)) listed r (now (list .exit)) ⌝ }
 {
     if number <= lower {
         if number == 0 {
@@ -89,7 +90,8 @@ fn visit(
 ) -> u32
     requires { ⌜ Blocks (now store) s ⌝ }
     requires { ⌜ InsideRoom s lower upper number listed (now list) ⌝ }
-    ensures { λ r. ⌜ InsideListed s t (reader (now (store .entry))) lower upper number (now (list .entry)) listed r (now (list .exit)) ⌝ }
+    ensures { λ r. ⌜ InsideListed s t (reader (now (store .entry))) lower upper number
+        (now (list .entry)) listed r (now (list .exit)) ⌝ }
 {
     let block = parts::block(store, s, number);
     let child = parts::block_word(block, fields::CHILD);
@@ -122,7 +124,8 @@ fn list_visit(
 ) -> u32
     requires { ⌜ Blocks (now store) s ⌝ }
     requires { ⌜ ListRoom s lower upper listed (now list) ⌝ }
-    ensures { λ r. ⌜ VisitListed s t (reader (now (store .entry))) lower upper number (now (list .entry)) listed r (now (list .exit)) ⌝ }
+    ensures { λ r. ⌜ VisitListed s t (reader (now (store .entry))) lower upper number
+        (now (list .entry)) listed r (now (list .exit)) ⌝ }
 {
     match enter(store, s, lower, upper, number, t, list, listed) {
         Entered::Unsound => 0,
@@ -145,8 +148,8 @@ fn visit_rows(
 ) -> Walked
     requires { ⌜ Blocks (now store) s ⌝ }
     requires { ⌜ Gap s lower upper n (now rows) (now list) ⌝ }
-    ensures { λ r. ⌜ VisitTold s t (reader (now (store .entry))) lower upper number (now (rows .entry)) (now (list .entry)) n
-        r (now (rows .exit)) (now (list .exit)) ⌝ }
+    ensures { λ r. ⌜ VisitTold s t (reader (now (store .entry))) lower upper number
+        (now (rows .entry)) (now (list .entry)) n r (now (rows .exit)) (now (list .exit)) ⌝ }
 {
     let blocks = list_visit(store, s, lower, upper, number, t, list, n.blocks);
     if blocks == 0 {
@@ -196,8 +199,8 @@ fn climb(
     requires { ⌜ Readable (now store) h ⌝ }
     requires { ⌜ Numbered (h .settings) number ⌝ }
     requires { ⌜ Space (h .settings) n (now rows) (now list) ⌝ }
-    ensures { λ r. ⌜ Climbs (h .settings) t (reader (now (store .entry))) (now (rows .entry)) (now (list .entry)) n number
-        r (now (rows .exit)) (now (list .exit)) ⌝ }
+    ensures { λ r. ⌜ Climbs (h .settings) t (reader (now (store .entry)))
+        (now (rows .entry)) (now (list .entry)) n number r (now (rows .exit)) (now (list .exit)) ⌝ }
 {
     let block = parts::block(store, h.settings, number);
     let up = parts::block_word(block, fields::UP);
@@ -232,8 +235,8 @@ pub(crate) fn path(
 ) -> Walked
     requires { ⌜ Readable (now store) h ⌝ }
     requires { ⌜ Reach (h .settings) number n (now rows) (now list) ⌝ }
-    ensures { λ r. ⌜ PathTold (h .settings) t (reader (now (store .entry))) number (now (rows .entry)) (now (list .entry)) n
-        r (now (rows .exit)) (now (list .exit)) ⌝ }
+    ensures { λ r. ⌜ PathTold (h .settings) t (reader (now (store .entry))) number
+        (now (rows .entry)) (now (list .entry)) n r (now (rows .exit)) (now (list .exit)) ⌝ }
 {
     let mut at = number;
     let mut counts = n;

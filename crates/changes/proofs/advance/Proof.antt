@@ -10,23 +10,11 @@ use Rattle.changes.specs.ReplyLaws.{turned-away, carried-out, advance-ab
 use Rattle.changes.proofs.advance.Statement.{statement}
 use Rattle.changes.proofs.advance.Tie as tie
 
-decide-advance-requires : tie.Need-decide-advance-requires
-decide-advance-requires c κs = search needs
-
-enum-known-verdict : tie.Need-enum-known-verdict
-enum-known-verdict c = search needs
-
-enum-known-verdict-2 : tie.Need-enum-known-verdict-2
-enum-known-verdict-2 c = search needs
-
 advance-program-requires : tie.Need-advance-program-requires
 advance-program-requires c κs =
     let a = c .before .before .before .before .before .before .before .args in
     advance-able (a .store .now) (a .second)
     (sym (c .before .before .before .before .decide-advance .ensures) ∙ c .before .before .verdict2 .given .1)
-
-same-length : tie.Need-same-length
-same-length c = search needs
 
 returns : tie.Need-returns
 unfolding advance
@@ -35,9 +23,6 @@ returns c =
     turned-away (timeTests (a .store .now) (a .second) []) (a .store .now)
     (advanceProgram (headOf (a .store .now) .settings) (headOf (a .store .now) .cursor) (a .second))
     (sym (c .before .before .before .decide-advance .ensures) ∙ c .before .verdict .given .1)
-
-same-length-2 : tie.Need-same-length-2
-same-length-2 c = search needs
 
 returns-2 : tie.Need-returns-2
 unfolding advance
@@ -51,4 +36,4 @@ returns-2 c =
 pub advance-spec : {M : Type 1} → statement M
 advance-spec =
     tie.close
-    (tie.spec decide-advance-requires enum-known-verdict enum-known-verdict-2 advance-program-requires same-length returns same-length-2 returns-2)
+    (tie.spec (search needs) (search needs) (search needs) advance-program-requires (search needs) returns (search needs) returns-2)

@@ -10,24 +10,12 @@ use Rattle.changes.specs.ReplyLaws.{turned-away, carried-out, clearing-a
 use Rattle.changes.proofs.clearing.Statement.{statement}
 use Rattle.changes.proofs.clearing.Tie as tie
 
-decide-clearing-requires : tie.Need-decide-clearing-requires
-decide-clearing-requires c κs = search needs
-
-enum-known-verdict : tie.Need-enum-known-verdict
-enum-known-verdict c = search needs
-
-enum-known-verdict-2 : tie.Need-enum-known-verdict-2
-enum-known-verdict-2 c = search needs
-
 clearing-program-requires : tie.Need-clearing-program-requires
 clearing-program-requires c κs =
     let entry = c .before .before .before .before .before .before .before in
     let a = entry .args in
     let go = sym (c .before .before .before .before .decide-clearing .ensures) ∙ c .before .before .verdict2 .given .1 in
     (clearing-able (a .store .now) (a .second) (a .tag) (a .more) (a .reading) (entry .pre) go, clearing-listed (a .store .now) (a .second) (a .tag) (a .more) go)
-
-same-length : tie.Need-same-length
-same-length c = search needs
 
 returns : tie.Need-returns
 unfolding clearing
@@ -36,9 +24,6 @@ returns c =
     turned-away (clearTests (a .more) (a .store .now) (wordsRead (a .store .now)) (a .second) (a .tag)) (a .store .now)
     (clearingProgram (a .more) (headOf (a .store .now) .settings) (headOf (a .store .now) .cursor) (a .second) (a .tag) (a .reading))
     (sym (c .before .before .before .decide-clearing .ensures) ∙ c .before .verdict .given .1)
-
-same-length-2 : tie.Need-same-length-2
-same-length-2 c = search needs
 
 returns-2 : tie.Need-returns-2
 unfolding clearing
@@ -52,4 +37,4 @@ returns-2 c =
 pub clearing-spec : {M : Type 1} → statement M
 clearing-spec =
     tie.close
-    (tie.spec decide-clearing-requires enum-known-verdict enum-known-verdict-2 clearing-program-requires same-length returns same-length-2 returns-2)
+    (tie.spec (search needs) (search needs) (search needs) clearing-program-requires (search needs) returns (search needs) returns-2)

@@ -9,23 +9,11 @@ use Rattle.changes.specs.ReplyLaws.{turned-away, carried-out, set-able}
 use Rattle.changes.proofs.set.Statement.{statement}
 use Rattle.changes.proofs.set.Tie as tie
 
-decide-set-requires : tie.Need-decide-set-requires
-decide-set-requires c κs = search needs
-
-enum-known-verdict : tie.Need-enum-known-verdict
-enum-known-verdict c = search needs
-
-enum-known-verdict-2 : tie.Need-enum-known-verdict-2
-enum-known-verdict-2 c = search needs
-
 set-program-requires : tie.Need-set-program-requires
 set-program-requires c κs =
     let a = c .before .before .before .before .before .before .before .args in
     set-able (a .store .now) (a .second) (a .tag) (a .reading)
     (sym (c .before .before .before .before .decide-set .ensures) ∙ c .before .before .verdict2 .given .1)
-
-same-length : tie.Need-same-length
-same-length c = search needs
 
 returns : tie.Need-returns
 unfolding set
@@ -34,9 +22,6 @@ returns c =
     turned-away (setTests (a .store .now) (wordsRead (a .store .now)) (a .second) (a .tag)) (a .store .now)
     (setProgram (headOf (a .store .now) .settings) (headOf (a .store .now) .cursor) (a .second) (a .tag) (a .reading))
     (sym (c .before .before .before .decide-set .ensures) ∙ c .before .verdict .given .1)
-
-same-length-2 : tie.Need-same-length-2
-same-length-2 c = search needs
 
 returns-2 : tie.Need-returns-2
 unfolding set
@@ -50,4 +35,4 @@ returns-2 c =
 pub set-spec : {M : Type 1} → statement M
 set-spec =
     tie.close
-    (tie.spec decide-set-requires enum-known-verdict enum-known-verdict-2 set-program-requires same-length returns same-length-2 returns-2)
+    (tie.spec (search needs) (search needs) (search needs) set-program-requires (search needs) returns (search needs) returns-2)

@@ -8,18 +8,6 @@ use Rattle.changes.specs.ReplyLaws.{start-away, start-done}
 use Rattle.changes.proofs.start.Statement.{statement}
 use Rattle.changes.proofs.start.Tie as tie
 
-decide-start-requires : tie.Need-decide-start-requires
-decide-start-requires c κs = search needs
-
-enum-known-verdict : tie.Need-enum-known-verdict
-enum-known-verdict c = search needs
-
-enum-known-verdict-2 : tie.Need-enum-known-verdict-2
-enum-known-verdict-2 c = search needs
-
-fresh-requires : tie.Need-fresh-requires
-fresh-requires c κs = search needs
-
 clear-layout-requires : tie.Need-clear-layout-requires
 clear-layout-requires c κs =
     let a = c .before .before .before .before .before .before .before .before .args in
@@ -32,16 +20,10 @@ write-head-requires c κs =
     let g = go-start (a .store .now) (a .asked) (sym (c .before .before .before .before .before .before .before .before .before .decide-start .ensures) ∙ c .before .before .before .before .before .before .before .verdict2 .given .1) in
     omega (arith, g .1 .head)
 
-same-length : tie.Need-same-length
-same-length c = search needs
-
 returns : tie.Need-returns
 returns c =
     let a = c .before .before .before .before .before .before .args in
     start-away (a .store .now) (a .asked) (sym (c .before .before .before .decide-start .ensures) ∙ c .before .verdict .given .1)
-
-same-length-2 : tie.Need-same-length-2
-same-length-2 c = search needs
 
 returns-2 : tie.Need-returns-2
 returns-2 c =
@@ -53,4 +35,4 @@ returns-2 c =
 pub start-spec : {M : Type 1} → statement M
 start-spec =
     tie.close
-    (tie.spec decide-start-requires enum-known-verdict enum-known-verdict-2 fresh-requires clear-layout-requires write-head-requires same-length returns same-length-2 returns-2)
+    (tie.spec (search needs) (search needs) (search needs) (search needs) clear-layout-requires write-head-requires (search needs) returns (search needs) returns-2)

@@ -5,15 +5,9 @@ use Rattle.changes.specs.Replied.{clearing}
 use Rattle.changes.proofs.update.Statement.{statement}
 use Rattle.changes.proofs.update.Tie as tie
 
-clearing-requires : tie.Need-clearing-requires
-clearing-requires c κs = search needs
-
-same-length : tie.Need-same-length
-same-length c = search needs
-
 returns : tie.Need-returns
 unfolding update clearing
 returns c = c .before .before .clearing .ensures
 
 pub update-spec : {M : Type 1} → statement M
-update-spec = tie.close (tie.spec clearing-requires same-length returns)
+update-spec = tie.close (tie.spec (search needs) (search needs) returns)

@@ -5,12 +5,6 @@ use Rattle.applying.specs.Applied.{changeAnswer}
 use Rattle.applying.proofs.call.changed.Statement.{statement}
 use Rattle.applying.proofs.call.changed.Tie as tie
 
-enum-known-c : tie.Need-enum-known-c
-enum-known-c c = search needs
-
-enum-known-c-2 : tie.Need-enum-known-c-2
-enum-known-c-2 c = search needs
-
 returns : tie.Need-returns
 returns c = sym (ap changeAnswer (c .before .c .given .1))
 
@@ -18,4 +12,4 @@ returns-2 : tie.Need-returns-2
 returns-2 c = sym (ap changeAnswer (c .before .c2 .given .1))
 
 pub changed-spec : {M : Type 1} → statement M
-changed-spec = tie.close (tie.spec enum-known-c enum-known-c-2 returns returns-2)
+changed-spec = tie.close (tie.spec (search needs) (search needs) returns returns-2)

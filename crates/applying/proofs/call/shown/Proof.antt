@@ -5,12 +5,6 @@ use Rattle.applying.specs.Applied.{sliceAnswer}
 use Rattle.applying.proofs.call.shown.Statement.{statement}
 use Rattle.applying.proofs.call.shown.Tie as tie
 
-enum-known-l : tie.Need-enum-known-l
-enum-known-l c = search needs
-
-enum-known-l-2 : tie.Need-enum-known-l-2
-enum-known-l-2 c = search needs
-
 returns : tie.Need-returns
 returns c = sym (ap sliceAnswer (c .before .l .given .1))
 
@@ -18,4 +12,4 @@ returns-2 : tie.Need-returns-2
 returns-2 c = sym (ap sliceAnswer (c .before .l2 .given .1))
 
 pub shown-spec : {M : Type 1} → statement M
-shown-spec = tie.close (tie.spec enum-known-l enum-known-l-2 returns returns-2)
+shown-spec = tie.close (tie.spec (search needs) (search needs) returns returns-2)

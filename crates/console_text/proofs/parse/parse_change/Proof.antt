@@ -1,37 +1,18 @@
--- `parse::parse_change` meets its contract: exactly four fields, or bad.
+-- `parse::parse_change` meets its contract: by the sign, or bad.
+use mathlib.Core.Path.{sym, ap, _∙_}
 use borrow.Author.Needs.{needs}
-use Rattle.console_text.specs.declared.parse.Line.the-variants.{Bad}
 use Rattle.console_text.specs.Input.{changeOf, changeLine}
-use Rattle.console_text.specs.FieldsLaws.{says-four, says-bad}
 use Rattle.console_text.proofs.parse.parse_change.Statement.{statement}
 use Rattle.console_text.proofs.parse.parse_change.Tie as tie
 
 returns : tie.Need-returns
-unfolding changeLine
-returns c = says-bad Bad changeOf _ (c .before .field-count .ensures) (c .if1 .taken)
+unfolding changeOf changeLine
+returns c = c .by-sign .ensures ∙ ap changeOf (sym (c .before .before .time .given .1) ∙ c .before .before .before .before .numbers-in .ensures)
 
 returns-2 : tie.Need-returns-2
-unfolding changeLine
-returns-2 c =
-    let at-third = c .before .before .before .before .before in
-    let at-second = at-third .before in
-    let at-count = at-second .before .before in
-    says-four Bad changeOf _ (at-count .field-count .ensures) (at-second .before .if1 .left) (at-second .after-field .ensures)
-    (at-third .after-field2 .ensures) (c .before .before .before .before .first-field .ensures)
-    (c .before .before .before .first-field2 .ensures) (c .before .before .first-field3 .ensures)
-    (c .before .after-field3 .ensures) (c .change-of .ensures)
+unfolding changeOf changeLine
+returns-2 c = ap changeOf (sym (c .enum-told .given .1) ∙ c .before .before .numbers-in .ensures)
 
 pub parse-change-spec : {M : Type 1} → statement M
 parse-change-spec =
-    tie.close
-    (tie.spec
-    (search needs)
-    returns
-    (search needs)
-    (search needs)
-    (search needs)
-    (search needs)
-    (search needs)
-    (search needs)
-    (search needs)
-    returns-2)
+    tie.close (tie.spec (search needs) (search needs) (search needs) (search needs) returns returns-2)

@@ -5,11 +5,8 @@ use Rattle.layout.specs.PartsLaws.{cleared-is}
 use Rattle.layout.proofs.head.clear_layout.Statement.{statement}
 use Rattle.layout.proofs.head.clear_layout.Tie as tie
 
-zero-part-requires : tie.Need-zero-part-requires
-zero-part-requires c κs = search needs
-
 returns : tie.Need-returns
 returns c = c .before .before .zero-part .ensures ∙ cleared-is (c .before .before .before .before .before .before .args .s) (c .before .before .before .before .before .before .args .store .now) (c .before .before .before .before .before .before .pre .1) (c .before .before .before .words .ensures .is)
 
 pub clear-layout-spec : {M : Type 1} → statement M
-clear-layout-spec = tie.close (tie.spec (search needs) zero-part-requires (search needs) returns)
+clear-layout-spec = tie.close (tie.spec (search needs) (search needs) (search needs) returns)

@@ -5,13 +5,10 @@ use Rattle.layout.specs.Parts.{slotWord}
 use Rattle.layout.proofs.parts.slot_word.Statement.{statement}
 use Rattle.layout.proofs.parts.slot_word.Tie as tie
 
-shared-slice-read-result : tie.Need-shared-slice-read-result
-shared-slice-read-result c = search needs
-
 returns : tie.Need-returns
 unfolding slotWord
 returns c = refl
 
 pub slot-word-spec : {M : Type 1} → statement M
 slot-word-spec =
-    tie.close (tie.spec (search needs) (search needs) (search needs) (search needs) shared-slice-read-result returns)
+    tie.close (tie.spec (search needs) (search needs) (search needs) (search needs) (search needs) returns)

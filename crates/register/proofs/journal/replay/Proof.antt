@@ -17,21 +17,6 @@ abbrev μ-loop : tie.MeasureT-loop
 loop-holds : tie.Need-loop-holds Inv-loop μ-loop
 loop-holds c = going _ _
 
-sub-loop : tie.Need-sub-loop Inv-loop μ-loop
-sub-loop c = search needs
-
-play-at-requires : tie.Need-play-at-requires Inv-loop μ-loop
-play-at-requires c κs = search needs
-
-enum-known-one : tie.Need-enum-known-one Inv-loop μ-loop
-enum-known-one c = search needs
-
-enum-told : tie.Need-enum-told Inv-loop μ-loop
-enum-told c = search needs
-
-same-length : tie.Need-same-length Inv-loop μ-loop
-same-length c = search needs
-
 returns : tie.Need-returns Inv-loop μ-loop
 returns c =
     let r = at-other (c .before .before .before .before .before .before .before .loop .inv) (c .before .before .before .before .before .before .loop-test .taken) (c .before .before .before .before .play-at .ensures) (c .enum-told .given .1) in (r, rebuilt (r .store))
@@ -41,20 +26,8 @@ add-accepted c =
     let g = at-next (c .before .before .before .before .before .before .before .before .loop .inv) (c .before .before .before .before .before .before .before .loop-test .taken) (c .before .before .before .before .before .play-at .ensures) (c .before .one .given .1) in
     omega (arith, g .few, g .place, g .within)
 
-add-entries : tie.Need-add-entries Inv-loop μ-loop
-add-entries c = search needs
-
-add-at : tie.Need-add-at Inv-loop μ-loop
-add-at c = search needs
-
-loop-less : tie.Need-loop-less Inv-loop μ-loop
-loop-less c = search needs
-
 loop-again : tie.Need-loop-again Inv-loop μ-loop
 loop-again c = at-next (c .before .before .before .before .before .before .before .before .loop .inv) (c .before .before .before .before .before .before .before .loop-test .taken) (c .before .before .before .before .before .play-at .ensures) (c .before .one .given .1)
-
-same-length-2 : tie.Need-same-length-2 Inv-loop μ-loop
-same-length-2 c = search needs
 
 returns-2 : tie.Need-returns-2 Inv-loop μ-loop
 returns-2 c =
@@ -67,16 +40,16 @@ replay-spec =
     Inv-loop
     μ-loop
     loop-holds
-    sub-loop
-    play-at-requires
-    enum-known-one
-    enum-told
-    same-length
+    (search needs)
+    (search needs)
+    (search needs)
+    (search needs)
+    (search needs)
     returns
     add-accepted
-    add-entries
-    add-at
-    loop-less
+    (search needs)
+    (search needs)
+    (search needs)
     loop-again
-    same-length-2
+    (search needs)
     returns-2)

@@ -10,11 +10,8 @@ returns c = fed-end _ _ _ (c .if1 .taken)
 returns-2 : tie.Need-returns-2
 returns-2 c = fed-skip _ _ _ (c .before .if1 .left) (c .if2 .taken)
 
-element-write-line : tie.Need-element-write-line
-element-write-line c = search needs
-
 returns-3 : tie.Need-returns-3
 returns-3 c = fed-store _ _ _ (c .before .if1 .left) (c .if2 .left)
 
 pub feed-spec : {M : Type 1} → statement M
-feed-spec = tie.close (tie.spec returns returns-2 element-write-line (search needs) returns-3)
+feed-spec = tie.close (tie.spec returns returns-2 (search needs) (search needs) returns-3)

@@ -9,12 +9,9 @@ returns : tie.Need-returns
 unfolding raised
 returns c = simp (c .bit-on .ensures, lt-ltb _ _ (c .before .if1 .taken))
 
-bit-on-requires-2 : tie.Need-bit-on-requires-2
-bit-on-requires-2 c κs = search needs
-
 returns-2 : tie.Need-returns-2
 unfolding raised
 returns-2 c = simp (c .bit-on2 .ensures, le-ltb _ _ (c .before .if1 .left))
 
 pub with-spec : {M : Type 1} → statement M
-with-spec = tie.close (tie.spec (search needs) returns bit-on-requires-2 returns-2)
+with-spec = tie.close (tie.spec (search needs) returns (search needs) returns-2)
