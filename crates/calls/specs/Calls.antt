@@ -4,6 +4,7 @@ use mathlib.Core.List.{List, [], _∷_}
 use Prim.Native.Nat.{ℕ}
 use Rattle.layout.specs.declared.settings.Settings.{Settings}
 use Rattle.layout.specs.declared.head.Head.{Head}
+use Rattle.layout.specs.declared.payload.Payload.{Payload}
 
 -- What may be asked of a store, with the buffers that each question is lent.
 pub data Query : Type 0 where
@@ -27,10 +28,10 @@ pub data Call : Type 0 where
   Advance : ℕ → Call
   Ask : Query → Call
 
--- a condition that stands: its tag and its reading, as the word that is stored
+-- a condition that stands: its tag, and what its record tells
 pub record Row : Type 0 where
   pub tag : ℕ
-  pub reading : ℕ
+  pub payload : Payload
 
 -- the three numbers
 pub record Counts : Type 0 where

@@ -3,6 +3,8 @@ use mathlib.Core.Bool.{Bool, false, cond, _||_}
 use mathlib.Core.List.{List, [], _∷_, _++_}
 use Prim.Native.Nat.{ℕ}
 use lib.Dec.{eqb, leb}
+use Rattle.layout.specs.declared.payload.Payload.{Payload}
+use Rattle.layout.specs.Payload.{newPayload}
 use Rattle.calls.specs.Calls.{Call, Start, Set, Clear, Update, Advance, Ask, Row}
 
 -- the accepted changes, the first of them first
@@ -14,14 +16,14 @@ abbrev pub without : ℕ → List Row → List Row
 without tag [] = []
 without tag (r ∷ l) = cond (eqb (r .tag) tag) (without tag l) (r ∷ without tag l)
 
-abbrev pub andRow : ℕ → ℕ → List Row → List Row
-andRow tag reading rows = rows ++ (record { tag = tag; reading = reading } ∷ [])
+abbrev pub andRow : ℕ → Payload → List Row → List Row
+andRow tag payload rows = rows ++ (record { tag = tag; payload = payload } ∷ [])
 
 -- a change tells of the seconds from its own on
 abbrev pub tells : ℕ → List Row → Call → List Row
-tells t rows (Set s tag reading) = cond (leb s t) (andRow tag reading rows) rows
+tells t rows (Set s tag reading) = cond (leb s t) (andRow tag (newPayload reading) rows) rows
 tells t rows (Clear s tag) = cond (leb s t) (without tag rows) rows
-tells t rows (Update s tag reading) = cond (leb s t) (andRow tag reading (without tag rows)) rows
+tells t rows (Update s tag reading) = cond (leb s t) (andRow tag (newPayload reading) (without tag rows)) rows
 tells t rows (Start s) = rows
 tells t rows (Advance s) = rows
 tells t rows (Ask q) = rows
@@ -36,9 +38,9 @@ stateAt log t = stateFrom t [] log
 
 -- ---- the state so far: what all changes of the log, whatever their seconds, leave standing
 abbrev pub makes : List Row → Call → List Row
-makes rows (Set s tag reading) = andRow tag reading rows
+makes rows (Set s tag reading) = andRow tag (newPayload reading) rows
 makes rows (Clear s tag) = without tag rows
-makes rows (Update s tag reading) = andRow tag reading (without tag rows)
+makes rows (Update s tag reading) = andRow tag (newPayload reading) (without tag rows)
 makes rows (Start s) = rows
 makes rows (Advance s) = rows
 makes rows (Ask q) = rows

@@ -7,6 +7,7 @@ use lib.ListN.{length, drop, replicate}
 use Rattle.layout.specs.Sizes.{OPEN}
 use Rattle.layout.specs.RefusalNumbers.{UNSOUND}
 use Rattle.layout.specs.Head.{headOf}
+use Rattle.layout.specs.Payload.{payloadWords}
 use Rattle.layout.specs.Parts.{blockPart, levelPart, pagePart}
 use Rattle.calls.specs.Calls.{Row, View, Answer, Shown, Refused}
 use Rattle.calls.specs.Walk.{Reader, Pass, Looked, unsoundly, looked, look}
@@ -35,10 +36,10 @@ viewOf rows list passes = record {
   counts = record { rows = length rows; pages = length passes; blocks = length list };
 }
 
--- rows as words: tag, reading
+-- rows as words: the tag, then what is told
 abbrev pub rowWords : List Row → List ℕ
 rowWords [] = []
-rowWords (r ∷ l) = r .tag ∷ r .reading ∷ rowWords l
+rowWords (r ∷ l) = r .tag ∷ (payloadWords (r .payload) ++ rowWords l)
 
 -- words at the start of a buffer; those after them keep their contents
 abbrev pub written : List ℕ → List ℕ → List ℕ

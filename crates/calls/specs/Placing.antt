@@ -8,10 +8,12 @@ use Rattle.base.specs.Bits.{withBit, withoutBit}
 use Rattle.base.specs.Slots.{slotsOf}
 use Rattle.layout.specs.declared.settings.Settings.{Settings}
 use Rattle.layout.specs.declared.head.Cursor.{Cursor}
+use Rattle.layout.specs.declared.payload.Payload.{Payload}
 use Rattle.layout.specs.declared.address.Address.the-variants.{Time, Dir, Field, Bits, Slot}
 use Rattle.layout.specs.Sizes.{OPEN, pageLen}
-use Rattle.layout.specs.Fields.{openedWord, closedWord, upWord, leftWord, childWord, rightWord, tagWord, readingWord, fromWord, toWord}
+use Rattle.layout.specs.Fields.{openedWord, closedWord, upWord, leftWord, childWord, rightWord, tagWord, fromWord, toWord}
 use Rattle.layout.specs.Program.{Prog, ret, when, _>>=_, _>>_, get!, set!, wipe!, each}
+use Rattle.layout.specs.Payload.{newPayload, getPayload, setPayload}
 pub use Rattle.layout.specs.Places.{placeOf, blockOf, slotOf}
 use Rattle.layout.specs.Cursor.{at, filled, grown, relinked, storeCursor}
 
@@ -72,10 +74,10 @@ standing n = do
 
 module _ (s : Settings) where
   -- a record goes to the acceptor's next slot, its standing bit is 1 whatever it was, and the directory follows
-  unfoldable pub putRecord : Cursor → ℕ → ℕ → ℕ → Prog Cursor
-  putRecord c now tag reading = do
+  unfoldable pub putRecord : Cursor → ℕ → ℕ → Payload → Prog Cursor
+  putRecord c now tag payload = do
     set! (Slot (c .opened) (c .fill) tagWord) tag
-    set! (Slot (c .opened) (c .fill) readingWord) reading
+    setPayload (c .opened) (c .fill) payload
     set! (Slot (c .opened) (c .fill) fromWord) now
     set! (Slot (c .opened) (c .fill) toWord) OPEN
     w ← get! (Bits (c .opened) (c .fill / 32))
@@ -87,9 +89,9 @@ module _ (s : Settings) where
   unfoldable pub moveRecord : ℕ → ℕ → ℕ → Cursor → Prog Cursor
   moveRecord x now k c = do
     tag ← get! (Slot x k tagWord)
-    reading ← get! (Slot x k readingWord)
+    payload ← getPayload x k
     endRecord x k now
-    putRecord c now tag reading
+    putRecord c now tag payload
 
   -- ---- the old acceptor is judged: with fewer than q standing it closes, and its copies go into the new block. They are at most q − 1, and the
   -- new block has room for b ≥ 2q, so no further block opens.
@@ -116,7 +118,7 @@ module _ (s : Settings) where
   unfoldable pub place : Cursor → ℕ → ℕ → ℕ → Prog Cursor
   place c now tag reading = do
     d ← makeRoom c now
-    putRecord d now tag reading
+    putRecord d now tag (newPayload reading)
 
   -- ---- a block other than the acceptor is judged: its copies go where any record goes
   unfoldable pub replace : ℕ → ℕ → ℕ → Cursor → Prog Cursor

@@ -10,6 +10,7 @@ use Rattle.layout.specs.Sizes.{OPEN}
 use Rattle.layout.specs.Fields.{closedWord}
 use Rattle.layout.specs.Settings.{settingsOf}
 use Rattle.layout.specs.Head.{headOf, placed}
+use Rattle.layout.specs.Payload.{newPayload}
 use Rattle.calls.specs.Calls.{Call, Start, Set, Clear, Ask, LookBack, Row, Answer, Shown, Refused, accepted}
 use Rattle.calls.specs.Step.{step, wordsRead}
 use Rattle.calls.specs.History.{wordsAfter, trace, opening, account}
@@ -40,7 +41,7 @@ abbrev pub seenAt : List ℕ → ℕ → Answer
 seenAt ws t = step ws (Ask (LookBack t (replicate 32 0) (replicate 8 0))) .answer
 
 abbrev pub row : ℕ → ℕ → Row
-row tag reading = record { tag = tag; reading = reading }
+row tag reading = record { tag = tag; payload = newPayload reading }
 
 -- rows, list, the page passed on each level, pages read
 abbrev pub view : List Row → List ℕ → List ℕ → ℕ → Answer

@@ -6,8 +6,9 @@ use Prim.Native.Nat.{ℕ, zero, suc, _+_, _*_, _-_, _/_, min}
 use lib.Dec.{eqb, ltb, leb}
 use lib.ListN.{length, getD}
 use Rattle.layout.specs.Sizes.{OPEN, pageLen}
-use Rattle.layout.specs.Fields.{closedWord, upWord, leftWord, childWord, tagWord, readingWord, fromWord, toWord}
+use Rattle.layout.specs.Fields.{closedWord, upWord, leftWord, childWord, tagWord, fromWord, toWord}
 use Rattle.layout.specs.Parts.{blockWord, slotWord}
+use Rattle.layout.specs.Payload.{payloadIn}
 use Rattle.calls.specs.Calls.{Row}
 
 pub record Reader : Type 0 where
@@ -70,7 +71,7 @@ module _ (t opened : ℕ) (R : Reader) where
 unfoldable pub rowOf : ℕ → List ℕ → ℕ → List Row
 rowOf t block k =
     cond (leb (slotWord block k fromWord) t && ltb t (slotWord block k toWord))
-    (record { tag = slotWord block k tagWord; reading = slotWord block k readingWord } ∷ [])
+    (record { tag = slotWord block k tagWord; payload = payloadIn block k } ∷ [])
     []
 
 unfoldable pub rowsOf : ℕ → ℕ → List ℕ → List Row

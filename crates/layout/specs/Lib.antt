@@ -11,6 +11,7 @@ pub mod Cursor
 pub mod Standing
 pub mod Parts
 pub mod Places
+pub mod Payload
 pub mod Words
 pub mod AddressLaws
 pub mod ProgramLaws

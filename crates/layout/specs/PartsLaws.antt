@@ -13,6 +13,7 @@ use Rattle.layout.specs.Sizes.{levelLen, levelStart, pageLen, dirStart, 
 use Rattle.layout.specs.SettingsLaws.{block-len}
 use Rattle.layout.specs.AddressLaws.{head-below, slot-below}
 use Rattle.layout.specs.Parts.{part, blockPart, levelPart, pagePart, blockWord, slotWord}
+use Rattle.layout.specs.Payload.{newPayload, payloadOf}
 use Rattle.layout.specs.Words.{readWord}
 use Rattle.layout.specs.Head.{cleared}
 
@@ -110,3 +111,7 @@ module _ (s : Settings) (ws : List ℕ) where
       part-at (levelPart ws l) (e * pageLen) pageLen i b
       ∙ part-at ws (levelStart l) (levelLen l) (e * pageLen + i) (omega arith)
       ∙ ap (λ (o : ℕ). getD ws o 0) (omega arith)
+
+-- ---- records with the same words tell the same
+pub payload-same : {v w : ℕ → ℕ} → ((i : ℕ) → i < recordLen → v i ≡ w i) → payloadOf v ≡ payloadOf w
+payload-same h = ap newPayload (h _ (omega arith))

@@ -4,6 +4,7 @@ pub mod address;
 pub mod fields;
 pub mod head;
 pub mod parts;
+pub mod payload;
 pub mod place;
 pub mod refusal;
 pub mod settings;

@@ -14,12 +14,14 @@ use Rattle.layout.specs.declared.head.Head.{Head}
 use Rattle.layout.specs.declared.address.Address.{Address}
 use Rattle.layout.specs.declared.address.Address.the-variants.{Dir, Field, Bits, Slot}
 use Rattle.layout.specs.declared.standing.Standing.{Standing}
+use Rattle.layout.specs.declared.payload.Payload.{Payload}
 use Rattle.layout.specs.Sizes.{recordLen, bitsStart}
-use Rattle.layout.specs.Fields.{upWord, rightWord, childWord, closedWord, tagWord, toWord}
+use Rattle.layout.specs.Fields.{upWord, rightWord, childWord, closedWord, tagWord, readingWord, toWord}
 use Rattle.layout.specs.Address.{Valid, Numbered}
 use Rattle.layout.specs.Settings.{Within}
 use Rattle.layout.specs.Spot.{Spot}
 use Rattle.layout.specs.Standing.{slots, blockBits}
+use Rattle.layout.specs.Payload.{getPayload}
 use Rattle.layout.specs.Program.{Prog, bind, when, get!, set!, run}
 use Rattle.layout.specs.ProgramLaws.{refine}
 use Rattle.layout.specs.Ran.{Ran}
@@ -46,6 +48,12 @@ writes a x = (able-set a (able-first x), able-held x)
 
 pub writes-last : {s : Settings} (a : Address) {v : ℕ} {ws : List ℕ} → Able s (set! a v) ws → Valid s a × Held s ws
 writes-last a x = (able-set a x, able-held x)
+
+-- what the record of a slot tells is read
+pub reads-payload : {A : Type 0} {s : Settings} {n k : ℕ} {j : Payload → Prog A} {ws : List ℕ} → Able s (bind (getPayload n k) j) ws → Spot s n k × Held s ws
+reads-payload {n = n} {k} x =
+    let v = able-get (Slot n k readingWord) (able-first (able-first x)) in
+    (record { within = x .within; block = v .0; slot = v .1 }, able-held x)
 
 -- the standing slots of block n are read
 pub asks-standing : {A : Type 0} {s : Settings} {n : ℕ} {k : List ℕ → Prog A} {ws : List ℕ} → Able s (bind (standing n) k) ws → Numbered s n × Held s ws
@@ -78,6 +86,9 @@ module _ {s : Settings} {n k : ℕ} (p : Spot s n k) {A : Type 0} {q : Prog A} {
   pub slot-after : (i : ℕ) → ltb i recordLen ≡ true → Valid s (Slot n k i) × Held s ws′
   slot-after i e = ((p .block, p .slot, ltb-true i recordLen e), record { good = r .good; within = p .within })
 
+  pub spot-after : Spot s n k × Held s ws′
+  spot-after = (p, record { good = r .good; within = p .within })
+
   pub bits-after : Valid s (Bits n (k / 32)) × Held s ws′
   bits-after = ((p .block, omega (arith, p .slot, p .within)), record { good = r .good; within = p .within })
 
@@ -90,7 +101,7 @@ pub end-spot : {s : Settings} {ws : List ℕ} (n k now : ℕ) → Able s (endRec
 unfolding endRecord
 end-spot n k now a = let v = able-set (Slot n k toWord) (able-first a) in record { within = a .within; block = v .0; slot = v .1 }
 
-module _ {s : Settings} {ws : List ℕ} (c : Cursor) (now tag reading : ℕ) (a : Able s (putRecord s c now tag reading) ws) where
+module _ {s : Settings} {ws : List ℕ} (c : Cursor) (now tag : ℕ) (p : Payload) (a : Able s (putRecord s c now tag p) ws) where
   pub put-spot : Spot s (c .opened) (c .fill)
   unfolding putRecord
   put-spot = let v = able-set (Slot (c .opened) (c .fill) tagWord) (able-first a) in record { within = a .within; block = v .0; slot = v .1 }

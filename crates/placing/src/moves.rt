@@ -3,6 +3,7 @@ use crate::blocks;
 use crate::records;
 use layout::address;
 use layout::head::Head;
+use layout::payload;
 use layout::settings::Settings;
 use layout::standing::Standing;
 ghost use mathlib.Core.Path.{_≡_};
@@ -86,7 +87,7 @@ pub(crate) fn place(store: &mut [u32], h: Head, second: u32, tag: u32, reading: 
         (now (store .entry)) r (now (store .exit)) ⌝ }
 {
     let with_room = make_room(store, h, second);
-    records::put_record(store, with_room, second, tag, reading)
+    records::put_record(store, with_room, second, tag, payload::told(reading))
 }
 
 // The record of slot k of block x moves to where any record goes.

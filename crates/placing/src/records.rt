@@ -4,6 +4,8 @@ use layout::address;
 use layout::address::Address;
 use layout::fields;
 use layout::head::Head;
+use layout::payload;
+use layout::payload::Payload;
 use layout::place;
 use layout::settings::Settings;
 use layout::standing;
@@ -31,9 +33,15 @@ pub(crate) fn end_record(store: &mut [u32], s: Settings, n: u32, k: u32, second:
 }
 
 // A record goes to the acceptor's next slot, from `second` on, and the directory follows.
-pub(crate) fn put_record(store: &mut [u32], h: Head, second: u32, tag: u32, reading: u32) -> Head
-    requires { ⌜ Able (h .settings) (putRecord (h .settings) (h .cursor) second tag reading) (now store) ⌝ }
-    ensures { λ r. ⌜ Moved h (putRecord (h .settings) (h .cursor) second tag reading)
+pub(crate) fn put_record(
+    store: &mut [u32],
+    h: Head,
+    second: u32,
+    tag: u32,
+    payload: Payload,
+) -> Head
+    requires { ⌜ Able (h .settings) (putRecord (h .settings) (h .cursor) second tag payload) (now store) ⌝ }
+    ensures { λ r. ⌜ Moved h (putRecord (h .settings) (h .cursor) second tag payload)
         (now (store .entry)) r (now (store .exit)) ⌝ }
 {
     let s = h.settings;
@@ -41,7 +49,7 @@ pub(crate) fn put_record(store: &mut [u32], h: Head, second: u32, tag: u32, read
     let k = h.cursor.fill;
     let place = place::place_of(s, n, k);
     address::write(store, s, Address::Slot(n, k, fields::TAG), tag);
-    address::write(store, s, Address::Slot(n, k, fields::READING), reading);
+    payload::write(store, s, n, k, payload);
     address::write(store, s, Address::Slot(n, k, fields::FROM), second);
     address::write(store, s, Address::Slot(n, k, fields::TO), OPEN);
     let bits = address::read(store, s, Address::Bits(n, k / 32));
@@ -63,7 +71,7 @@ pub(crate) fn move_record(store: &mut [u32], h: Head, x: u32, k: u32, second: u3
 {
     let s = h.settings;
     let tag = address::read(store, s, Address::Slot(x, k, fields::TAG));
-    let reading = address::read(store, s, Address::Slot(x, k, fields::READING));
+    let payload = payload::read(store, s, x, k);
     end_record(store, s, x, k, second);
-    put_record(store, h, second, tag, reading)
+    put_record(store, h, second, tag, payload)
 }

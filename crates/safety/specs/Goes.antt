@@ -3,14 +3,17 @@
 use mathlib.Core.Path.{_≡_}
 use mathlib.Core.Bool.{Bool, true, false}
 use mathlib.Core.List.{List, [], _∷_}
-use Prim.Native.Nat.{ℕ}
+use Prim.Native.Nat.{ℕ, _<_}
+use lib.Dec.{lit≤}
 use Rattle.base.specs.Branch.{by-test}
 use Rattle.layout.specs.declared.settings.Settings.{Settings}
 use Rattle.layout.specs.declared.address.Address.{Address}
+use Rattle.layout.specs.declared.payload.Payload.{Payload}
 use Rattle.layout.specs.Address.{Valid, Numbered}
 use Rattle.layout.specs.Memory.{Memory, put, wiped}
 use Rattle.layout.specs.Program.{Prog, ret, bind, when, get!, set!, wipe!, each, runOn}
 use Rattle.layout.specs.ProgramLaws.{Safe}
+use Rattle.layout.specs.Payload.{payloadAt, getPayload, setPayload}
 use Rattle.layout.specs.OnWords.{onWords}
 
 pub record Goes {A : Type 0} (s : Settings) (p : Prog A) (f : Memory) (Q : A → Memory → Type 0) : Type 0 where
@@ -29,6 +32,14 @@ goes-set v g = record { safe = ((v, tt), g .safe); leaves = g .leaves }
 pub goes-wipe : {A : Type 0} {s : Settings} {n : ℕ} {k : Unit {0} → Prog A} {f : Memory} {R : A → Memory → Type 0} → Numbered s n
     → Goes s (k tt) (wiped f n) R → Goes s (bind (wipe! n) k) f R
 goes-wipe v g = record { safe = ((v, tt), g .safe); leaves = g .leaves }
+
+-- ---- what a record tells is read or written, then the rest
+module _ {A : Type 0} {s : Settings} {n k : ℕ} {f : Memory} {R : A → Memory → Type 0} (block : Numbered s n) (slot : k < s .block) where
+  pub goes-read : {j : Payload → Prog A} → Goes s (j (payloadAt f n k)) f R → Goes s (bind (getPayload n k) j) f R
+  goes-read g = record { safe = ((((block, slot, lit≤ tt), tt), tt), g .safe); leaves = g .leaves }
+
+  pub goes-write : {p : Payload} {j : Unit {0} → Prog A} → Goes s (j tt) ((runOn (setPayload n k p) f) .1) R → Goes s (bind (setPayload n k p) j) f R
+  goes-write g = record { safe = (((block, slot, lit≤ tt), tt), g .safe); leaves = g .leaves }
 
 -- ---- nothing done, a part and then the rest, a branch
 pub goes-ret : {A : Type 0} {s : Settings} {x : A} {f : Memory} {Q : A → Memory → Type 0} → Q x f → Goes s (ret x) f Q

@@ -13,16 +13,18 @@ use Rattle.base.specs.Bits.{withoutBit}
 use Rattle.layout.specs.declared.settings.Settings.{Settings}
 use Rattle.layout.specs.declared.head.Cursor.{Cursor}
 use Rattle.layout.specs.declared.standing.Standing.{Standing}
+use Rattle.layout.specs.declared.payload.Payload.{Payload}
 use Rattle.layout.specs.declared.address.Address.the-variants.{Time, Field, Bits, Slot}
 use Rattle.layout.specs.Sizes.{levelLen}
-use Rattle.layout.specs.Fields.{upWord, rightWord, tagWord, readingWord}
+use Rattle.layout.specs.Fields.{upWord, rightWord, tagWord}
 use Rattle.layout.specs.Settings.{Within}
 use Rattle.layout.specs.Address.{Numbered}
 use Rattle.layout.specs.Memory.{Memory}
 use Rattle.layout.specs.Program.{Prog, bind, set! }
+use Rattle.layout.specs.Payload.{payloadAt}
 use Rattle.layout.specs.Standing.{slots, raised, lowered, blockBits}
 use Rattle.calls.specs.Placing.{enterTime, openBlock, unlink, endRecord, standing, putRecord, moveRecord}
-use Rattle.safety.specs.Goes.{Goes, goes-get, goes-set, goes-wipe, goes-ret, goes-on, goes-when, goes-so}
+use Rattle.safety.specs.Goes.{Goes, goes-get, goes-read, goes-write, goes-set, goes-wipe, goes-ret, goes-on, goes-when, goes-so}
 use Rattle.safety.specs.Sound.{bit-raised, bit-lowered, bit-elsewhere, and-none, Movable}
 
 -- ---- a record ends
@@ -80,12 +82,12 @@ module _ (s : Settings) (z : Within s) where
         };
       }))
 
-  pub put-goes : (c : Cursor) (f : Memory) (now tag reading : ℕ) → Numbered s (c .opened) → c .fill < s .block → tag < s .tags
-      → Goes s (putRecord s c now tag reading) f (RecordPut f c tag)
+  pub put-goes : (c : Cursor) (f : Memory) (now tag : ℕ) (p : Payload) → Numbered s (c .opened) → c .fill < s .block → tag < s .tags
+      → Goes s (putRecord s c now tag p) f (RecordPut f c tag)
   unfolding putRecord
-  put-goes c f now tag reading nn room known =
+  put-goes c f now tag p nn room known =
       let word : c .fill / 32 < 2 = omega (arith, z .most) in
-      goes-set (nn, room, lit≤ tt) (goes-set (nn, room, lit≤ tt) (goes-set (nn, room, lit≤ tt) (goes-set (nn, room, lit≤ tt)
+      goes-set (nn, room, lit≤ tt) (goes-write nn room (goes-set (nn, room, lit≤ tt) (goes-set (nn, room, lit≤ tt)
       (goes-get (nn, word) (goes-set (nn, word) (goes-set known (goes-ret (record {
         opened = refl;
         fill = refl;
@@ -101,8 +103,8 @@ module _ (s : Settings) (z : Within s) where
       → Goes s (moveRecord s x now k c) f (RecordPut f c (f (Slot x k tagWord)))
   unfolding moveRecord
   move-goes c f x now k nx m apart nn room =
-      goes-get (nx, m .slot, lit≤ tt) (goes-get (nx, m .slot, lit≤ tt) (goes-on (end-goes x k now f nx (m .slot)) (λ u g e.
-      goes-so (put-goes c g now (f (Slot x k tagWord)) (f (Slot x k readingWord)) nn room (m .tag)) (λ d g′ p. record {
+      goes-get (nx, m .slot, lit≤ tt) (goes-read nx (m .slot) (goes-on (end-goes x k now f nx (m .slot)) (λ u g e.
+      goes-so (put-goes c g now (f (Slot x k tagWord)) (payloadAt f x k) nn room (m .tag)) (λ d g′ p. record {
         opened = p .opened;
         fill = p .fill;
         here = p .here;

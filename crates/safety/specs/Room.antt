@@ -21,6 +21,7 @@ use Rattle.layout.specs.Address.{Numbered}
 use Rattle.layout.specs.Memory.{Memory}
 use Rattle.layout.specs.Standing.{slots, stands, blockBits}
 use Rattle.layout.specs.StandingLaws.{raised-other}
+use Rattle.layout.specs.Payload.{newPayload}
 use Rattle.calls.specs.Placing.{moveRecord, closeFull, judgeFull, roll, makeRoom, place}
 use Rattle.calls.specs.Refusals.{takenUp}
 use Rattle.safety.specs.Goes.{Goes, goes-ret, goes-on, goes-when, goes-each, goes-so}
@@ -205,4 +206,4 @@ module _ (s : Settings) (z : Within s) where
   place-goes {m} c f now tag reading i known =
       goes-on (room-goes c f now i (omega arith)) (λ d g r.
       let nn : Numbered s (d .opened) = record { low = r .low; high = r .ready .limit } in
-      goes-so (put-goes s z d g now tag reading nn (r .room) known) (λ e h p. put-ready (r .ready) (r .low) (r .room) known p))
+      goes-so (put-goes s z d g now tag (newPayload reading) nn (r .room) known) (λ e h p. put-ready (r .ready) (r .low) (r .room) known p))

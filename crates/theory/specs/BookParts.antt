@@ -17,6 +17,7 @@ use Rattle.layout.specs.Fields.{tagWord}
 use Rattle.layout.specs.Settings.{Within}
 use Rattle.layout.specs.Memory.{Memory}
 use Rattle.layout.specs.Program.{runOn}
+use Rattle.layout.specs.declared.payload.Payload.{Payload}
 use Rattle.calls.specs.Placing.{openBlock, unlink, endRecord, putRecord, moveRecord}
 use Rattle.calls.specs.Book.{Block, standingTags, opensAt, onBlock, entriesOf, closesAt, appends, inOrder, judges}
 use Rattle.theory.specs.Effects.{view, unlink-effect, open-effect, recordsOf, put-records, open-records}
@@ -46,15 +47,15 @@ module _ {s : Settings} {Walk : List ℕ → Shape → Type 0} {write : Write} {
 
 module _ (s : Settings) where
   -- ---- a record goes to the end of the acceptor
-  pub put-book : (c : Cursor) (f : Memory) (now tag reading : ℕ) → 1 ≤ c .opened → view c f .closed (c .opened) ≡ OPEN
-      → let z = runOn (putRecord s c now tag reading) f in blocksIn s (shape (z .0) (z .1)) ≡ appends tag (blocksIn s (shape c f))
+  pub put-book : (c : Cursor) (f : Memory) (now tag : ℕ) (p : Payload) → 1 ≤ c .opened → view c f .closed (c .opened) ≡ OPEN
+      → let z = runOn (putRecord s c now tag p) f in blocksIn s (shape (z .0) (z .1)) ≡ appends tag (blocksIn s (shape c f))
   unfolding putRecord
-  put-book c f now tag reading some o =
-      let z = runOn (putRecord s c now tag reading) f in
-      let p = put-records s c now tag reading f in
-      let r : Record = record { tag = tag; reading = reading; from = now; to = OPEN } in
-      book-appends (s .block) (shape c f) (recordsOf (z .1)) r some o refl (p .here)
-      (λ m k d. entry-same (shape c f) (shape (z .0) (z .1)) m k refl (p .other m k d))
+  put-book c f now tag p some o =
+      let z = runOn (putRecord s c now tag p) f in
+      let e = put-records s c now tag p f in
+      let r : Record = record { tag = tag; payload = p; from = now; to = OPEN } in
+      book-appends (s .block) (shape c f) (recordsOf (z .1)) r some o refl (e .here)
+      (λ m k d. entry-same (shape c f) (shape (z .0) (z .1)) m k refl (e .other m k d))
 
   -- ---- a record of a closed block moves
   module _ (c : Cursor) (f : Memory) (x k now : ℕ) (before : x < c .opened) where

@@ -29,7 +29,7 @@ use Rattle.calls.specs.Claims.{First, Asked}
 use Rattle.theory.specs.Timeline.{none}
 use Rattle.theory.specs.State.{free, not-found}
 use Rattle.theory.specs.SoFar.{so-far, among-none, none-among, never-shows}
-use Rattle.theory.specs.LogLaws.{readings}
+use Rattle.theory.specs.LogLaws.{tellings}
 use Rattle.theory.specs.Foretelling.{set-foretold, clear-foretold, update-foretold}
 use Rattle.theory.specs.Rest.{headWith, copiesOf, booked-length, after-set, after-clear, after-update}
 use Rattle.theory.specs.Sound.{set-sound, clear-sound, same-copies}
@@ -76,7 +76,7 @@ module _ {ws : List ℕ} {a : Account} (i : Honest ws a) where
   pub free-among : (tag : ℕ) → f (Dir tag) ≡ 0 → among tag (soFar (a .log)) ≡ false
   free-among tag e =
       let t = i .rest .full .state .past in
-      let absent : readings (a .log) (a .clock) tag ≡ none = rw (← i .clock) (free (i .rest .full .state) tag e (c .clock) (omega arith) t) in
+      let absent : tellings (a .log) (a .clock) tag ≡ none = rw (← i .clock) (free (i .rest .full .state) tag e (c .clock) (omega arith) t) in
       rw (← so-far (i .timed)) (none-among tag (stateAt (a .log) (a .clock)) absent)
 
   pub among-free : (tag : ℕ) → among tag (soFar (a .log)) ≡ false → f (Dir tag) ≡ 0

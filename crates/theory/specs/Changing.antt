@@ -20,6 +20,8 @@ use Rattle.layout.specs.Fields.{tagWord, toWord}
 use Rattle.layout.specs.Settings.{Within}
 use Rattle.layout.specs.Memory.{Memory}
 use Rattle.layout.specs.Program.{runOn}
+use Rattle.layout.specs.declared.payload.Payload.{Payload}
+use Rattle.layout.specs.Payload.{newPayload}
 use Rattle.calls.specs.Placing.{placeOf, blockOf, slotOf, unlink, endRecord, standing, putRecord, moveRecord, makeRoom, place, replace, close, judge, clearTag}
 use Rattle.calls.specs.Book.{Block, onBlock, closesAt, lastOf, appends, inOrder, judges, writes, layers, holderOf, endsIn, bookClear}
 use Rattle.theory.specs.RunLaws.{each-walk}
@@ -47,12 +49,12 @@ pub record Made (s : Settings) (Due : ℕ → Type 0) (now : ℕ) (log : Timelin
 -- ---- a record is placed
 module _ {s : Settings} {Due : ℕ → Type 0} where
   -- what a record in an acceptor with room leaves
-  put-full : {now : ℕ} {log log′ : Timeline} {S : Shape} (c : Cursor) (f : Memory) (tag reading : ℕ) → Rolled s Due now log S (shape c f)
-      → let z = runOn (putRecord s c now tag reading) f in State s Due now log′ (shape (z .0) (z .1)) → Full s Due 0 0 now log′ (shape (z .0) (z .1))
+  put-full : {now : ℕ} {log log′ : Timeline} {S : Shape} (c : Cursor) (f : Memory) (tag : ℕ) (p : Payload) → Rolled s Due now log S (shape c f)
+      → let z = runOn (putRecord s c now tag p) f in State s Due now log′ (shape (z .0) (z .1)) → Full s Due 0 0 now log′ (shape (z .0) (z .1))
   unfolding putRecord
-  put-full {now} c f tag reading r st = record {
+  put-full {now} c f tag p r st = record {
     state = st;
-    useful = useful-set (r .full .useful) (put-records s c now tag reading f);
+    useful = useful-set (r .full .useful) (put-records s c now tag p f);
     within = r .full .within;
     fits = omega (arith, r .room);
   }
@@ -60,16 +62,16 @@ module _ {s : Settings} {Due : ℕ → Type 0} where
   pub place-law : {clock : ℕ} {log : Timeline} (c : Cursor) (f : Memory) (now tag reading : ℕ) → Full s Due 0 0 clock log (shape c f) → clock ≤ now
       → now < OPEN → tag < s .tags → f (Dir tag) ≡ 0
       → let z = runOn (place s c now tag reading) f in
-      Made s Due now (logged now tag (some reading) log) (writesAt s now tag (blocksIn s (shape c f))) (shape (z .0) (z .1))
+      Made s Due now (logged now tag (some (newPayload reading)) log) (writesAt s now tag (blocksIn s (shape c f))) (shape (z .0) (z .1))
   unfolding place
   place-law c f now tag reading i later ends known d =
       let z = runOn (makeRoom s c now) f in
       let r = room-law c f now i later ends in
       let unknown : z .1 (Dir tag) ≡ 0 = not-found (r .full .state) tag (free (i .state) tag d now later ends) in
-      let set = set-record (z .0) (z .1) (r .full .state) (omega arith) ends tag reading (r .low) (r .room) known unknown in
+      let set = set-record (z .0) (z .1) (r .full .state) (omega arith) ends tag (newPayload reading) (r .low) (r .room) known unknown in
       record {
-        full = put-full (z .0) (z .1) tag reading r set;
-        shows = put-book s (z .0) (z .1) now tag reading (r .low) (r .full .state .links .last) ∙ rolled-write r tag;
+        full = put-full (z .0) (z .1) tag (newPayload reading) r set;
+        shows = put-book s (z .0) (z .1) now tag (newPayload reading) (r .low) (r .full .state .links .last) ∙ rolled-write r tag;
       }
 
 -- ---- a block closes whose records may fill the acceptor up: in the midst of it

@@ -17,11 +17,13 @@ use Rattle.layout.specs.declared.head.Cursor.{Cursor}
 use Rattle.layout.specs.declared.standing.Standing.{Standing}
 use Rattle.layout.specs.declared.address.Address.the-variants.{Field, Slot}
 use Rattle.layout.specs.Sizes.{OPEN}
-use Rattle.layout.specs.Fields.{closedWord, upWord, tagWord, readingWord}
+use Rattle.layout.specs.Fields.{closedWord, upWord, tagWord}
 use Rattle.layout.specs.Settings.{Within}
 use Rattle.layout.specs.Memory.{Memory}
 use Rattle.layout.specs.Program.{runOn}
 use Rattle.layout.specs.Standing.{slots, raised, blockBits}
+use Rattle.layout.specs.declared.payload.Payload.{Payload}
+use Rattle.layout.specs.Payload.{newPayload, payloadAt}
 use Rattle.calls.specs.Placing.{enterTime, openBlock, unlink, endRecord, standing, putRecord, moveRecord, closeFull, judgeFull, roll, makeRoom, place, replace}
 use Rattle.calls.specs.Refusals.{takenUp}
 use Rattle.safety.specs.Sound.{bit-raised, bit-elsewhere}
@@ -189,15 +191,15 @@ module _ {s : Settings} (z : Within s) {N total now : ℕ} {few : Bool} {C : ℕ
       rw (first, free) (record { along = after i; room = omega (arith, i .fill, z .half); beyond = omega (arith, i .opened) })
 
   -- one of them is placed
-  put-along : {m : ℕ} (c : Cursor) (f : Memory) (tag reading : ℕ) → Roomy s N total now few C (m + 1) c f
-      → let d = runOn (putRecord s c now tag reading) f in Along s N total now few C m (d .0) (d .1)
+  put-along : {m : ℕ} (c : Cursor) (f : Memory) (tag : ℕ) (p : Payload) → Roomy s N total now few C (m + 1) c f
+      → let d = runOn (putRecord s c now tag p) f in Along s N total now few C m (d .0) (d .1)
   unfolding putRecord
-  put-along {m} c f tag reading r = go (r .along)
+  put-along {m} c f tag p r = go (r .along)
     where
       go : Along s N total now few C (m + 1) c f
-          → let d = runOn (putRecord s c now tag reading) f in Along s N total now few C m (d .0) (d .1)
+          → let d = runOn (putRecord s c now tag p) f in Along s N total now few C m (d .0) (d .1)
       go (before i) =
-          let g = (runOn (putRecord s c now tag reading) f) .1 in
+          let g = (runOn (putRecord s c now tag p) f) .1 in
           let more : s .block - c .fill ≡ suc (s .block - (c .fill + 1)) = omega (arith, r .room) in
           let raise : blockBits g (c .opened) ≡ raised (blockBits f (c .opened)) (c .fill) = bit-raised f (c .opened) (c .fill) (omega (arith, r .room, z .most)) in
           let raise′ : blockBits g N ≡ raised (blockBits f N) (c .fill) = subst (λ (n : ℕ). blockBits g n ≡ raised (blockBits f n) (c .fill)) (i .opened) raise in
@@ -216,7 +218,7 @@ module _ {s : Settings} (z : Within s) {N total now : ℕ} {few : Bool} {C : ℕ
   unfolding place
   place-along c f tag reading most i =
       let y = runOn (makeRoom s c now) f in
-      put-along (y .0) (y .1) tag reading (room-along c f (omega arith) (omega arith) i)
+      put-along (y .0) (y .1) tag (newPayload reading) (room-along c f (omega arith) (omega arith) i)
 
   -- a record of a block before the acceptor ends
   end-along : {m : ℕ} (c : Cursor) (f : Memory) (x k : ℕ) → x < N → Roomy s N total now few C m c f
@@ -241,4 +243,4 @@ module _ {s : Settings} (z : Within s) {N total now : ℕ} {few : Bool} {C : ℕ
   replace-along c f x k inner most i =
       let y = runOn (makeRoom s c now) f in
       let r = room-along c f (omega arith) (omega arith) i in
-      put-along (y .0) ((runOn (endRecord x k now) (y .1)) .1) (y .1 (Slot x k tagWord)) (y .1 (Slot x k readingWord)) (end-along (y .0) (y .1) x k inner r)
+      put-along (y .0) ((runOn (endRecord x k now) (y .1)) .1) (y .1 (Slot x k tagWord)) (payloadAt (y .1) x k) (end-along (y .0) (y .1) x k inner r)

@@ -12,10 +12,13 @@ use Rattle.layout.specs.declared.head.Cursor.{Cursor}
 use Rattle.layout.specs.declared.address.Address.{Address}
 use Rattle.layout.specs.declared.address.Address.the-variants.{Head, Time, Dir, Field, Bits, Slot}
 use Rattle.layout.specs.Sizes.{OPEN}
-use Rattle.layout.specs.Fields.{openedWord, closedWord, upWord, leftWord, childWord, rightWord, tagWord, readingWord, fromWord, toWord}
+use Rattle.layout.specs.Fields.{openedWord, closedWord, upWord, leftWord, childWord, rightWord, tagWord, fromWord, toWord}
 use Rattle.layout.specs.Memory.{Memory}
 use Rattle.layout.specs.Program.{runOn}
 use Rattle.layout.specs.declared.settings.Settings.{Settings}
+use Rattle.layout.specs.declared.payload.Payload.{Payload}
+use Rattle.layout.specs.Payload.{payloadAt}
+use Rattle.layout.specs.PartsLaws.{payload-same}
 use Rattle.calls.specs.Placing.{enterTime, openBlock, unlink, placeOf, endRecord, putRecord}
 use Rattle.theory.specs.Row.{Put, Unlinked, Opened, BlockView}
 use Rattle.theory.specs.RunLaws.{met, _then_, Only, framed}
@@ -150,7 +153,7 @@ open-effect c f now =
 
 -- ---- records, directory and bits
 abbrev pub recordsOf : Memory → Records
-recordsOf f n k = record { tag = f (Slot n k tagWord); reading = f (Slot n k readingWord); from = f (Slot n k fromWord); to = f (Slot n k toWord) }
+recordsOf f n k = record { tag = f (Slot n k tagWord); payload = payloadAt f n k; from = f (Slot n k fromWord); to = f (Slot n k toWord) }
 
 abbrev pub directoryOf : Memory → ℕ → ℕ
 directoryOf f tag = f (Dir tag)
@@ -168,17 +171,17 @@ unfolding endRecord
 end-marks n k now f = bit-out (marksOf f) n k
 
 -- ---- a record is placed
-module _ (s : Settings) (c : Cursor) (now tag reading : ℕ) (f : Memory) where
-  pub put-records : PutAt (recordsOf f) (recordsOf ((runOn (putRecord s c now tag reading) f) .1)) (c .opened) (c .fill)
-      (record { tag = tag; reading = reading; from = now; to = OPEN })
+module _ (s : Settings) (c : Cursor) (now tag : ℕ) (p : Payload) (f : Memory) where
+  pub put-records : PutAt (recordsOf f) (recordsOf ((runOn (putRecord s c now tag p) f) .1)) (c .opened) (c .fill)
+      (record { tag = tag; payload = p; from = now; to = OPEN })
   unfolding putRecord
   put-records = record { here = simp eqb-same; other = λ m j d. simp (apart-false (c .opened) (c .fill) m j d) }
 
-  pub put-directory : Put (directoryOf f) (directoryOf ((runOn (putRecord s c now tag reading) f) .1)) tag (placeOf s (c .opened) (c .fill))
+  pub put-directory : Put (directoryOf f) (directoryOf ((runOn (putRecord s c now tag p) f) .1)) tag (placeOf s (c .opened) (c .fill))
   unfolding putRecord
   put-directory = put-is (directoryOf f) tag (placeOf s (c .opened) (c .fill))
 
-  pub put-marks : PutBit (marksOf f) (marksOf ((runOn (putRecord s c now tag reading) f) .1)) (c .opened) (c .fill) 1
+  pub put-marks : PutBit (marksOf f) (marksOf ((runOn (putRecord s c now tag p) f) .1)) (c .opened) (c .fill) 1
   unfolding putRecord
   put-marks = bit-on (marksOf f) (c .opened) (c .fill)
 
@@ -213,7 +216,7 @@ module _ (c : Cursor) (now : ℕ) (f : Memory) where
     here = λ k. open-slot (c .opened + 1) k toWord ∙ simp eqb-same;
     other = λ m k d. λ i. record {
       tag = word m k tagWord d i;
-      reading = word m k readingWord d i;
+      payload = payload-same (λ j h. word m k j d) i;
       from = word m k fromWord d i;
       to = word m k toWord d i;
     };

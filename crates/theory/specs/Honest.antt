@@ -22,7 +22,7 @@ use Rattle.calls.specs.Book.{recordsIn}
 use Rattle.calls.specs.History.{Account}
 use Rattle.calls.specs.Claims.{Agrees}
 use Rattle.theory.specs.Effects.{view}
-use Rattle.theory.specs.LogLaws.{Once, readings}
+use Rattle.theory.specs.LogLaws.{Once, tellings}
 use Rattle.theory.specs.Rest.{Rest, headWith, Booked, booked-block, booked-useful, booked-length, booked-opened, booked-closed, booked-records}
 use Rattle.theory.specs.Counting.{Counted, counted-bound}
 use Rattle.theory.specs.SoFar.{Timed}
@@ -37,7 +37,7 @@ pub record Honest (ws : List ℕ) (a : Account) : Type 0 where
   pub stored : Stored ws (headWith (a .settings) cursor) memory
   pub clock : cursor .clock ≡ a .clock
   -- which are at rest and tell the log
-  pub rest : Rest (a .settings) (readings (a .log)) cursor memory
+  pub rest : Rest (a .settings) (tellings (a .log)) cursor memory
   pub once : Once (a .log)
   pub timed : Timed (a .clock) (a .log)
   -- and show the book

@@ -34,7 +34,7 @@ use Rattle.safety.specs.Goes.{Goes}
 use Rattle.safety.specs.CallSafe.{Next, next-head, advance-goes, set-goes, clear-call-goes, update-goes}
 use Rattle.theory.specs.Timeline.{Timeline, told-alike, none}
 use Rattle.theory.specs.State.{free as not-there, state-as}
-use Rattle.theory.specs.LogLaws.{Once, readings, once-empty, once-set, once-clear, once-update, readings-set, readings-clear, readings-update}
+use Rattle.theory.specs.LogLaws.{Once, tellings, once-empty, once-set, once-clear, once-update, tellings-set, tellings-clear, tellings-update}
 use Rattle.theory.specs.SoFar.{Timed, timed-none, timed-later, timed-more}
 use Rattle.theory.specs.Rest.{Rest, rest-fresh, headWith, booked-fresh, After, after-advance, after-set, after-clear, after-update}
 use Rattle.theory.specs.Fresh.{freshMemory, started}
@@ -71,7 +71,7 @@ module _ {ws : List ℕ} {a : Account} (i : Honest ws a) where
   -- what an accepted change leaves, where clock, log and book follow
   ran : {now : ℕ} {book : Book} {l : Log} {sets : ℕ} {log : Timeline} {tests : List Test} (p : Settings → Cursor → Prog Cursor)
       → let z = runOn (p s c) f in All (λ y. y .applies ≡ false) tests → Goes s (p s c) f (λ d g. Next s now d) → HeadMoved (z .0) f (z .1)
-      → After s now log book (z .0) (z .1) → ((t g : ℕ) → t < OPEN → log t g ≡ readings l t g) → Once l → Timed now l → Counted sets book
+      → After s now log book (z .0) (z .1) → ((t g : ℕ) → t < OPEN → log t g ≡ tellings l t g) → Once l → Timed now l → Counted sets book
       → Honest (change tests ws (p (headOf ws .settings) (headOf ws .cursor)) .store) (record { settings = s; clock = now; book = book; log = l; sets = sets })
   ran {now} {book} {l} {sets} {tests = tests} p free goes moved made alike once timed counted =
       let next = goes .leaves in
@@ -133,10 +133,10 @@ module _ {ws : List ℕ} {a : Account} (i : Honest ws a) where
           let free : f (Dir tag) ≡ 0 = sym (word-is i (Dir tag) known) ∙ eqb-true (wordsRead ws (Dir tag)) 0 (not-false _ x₉) in
           let left : blocksOut (headWith s c) 1 ≡ false = ap (λ (h : Head). blocksOut h 1) (sym (head-is i)) ∙ x₁₃ in
           let sound = set-sound c f (i .rest) f itself in
-          let absent : (t : ℕ) → now ≤ t → t < OPEN → readings (a .log) t tag ≡ none = λ t l o. not-there (i .rest .full .state) tag free t (omega (arith, k .later)) o in
+          let absent : (t : ℕ) → now ≤ t → t < OPEN → tellings (a .log) t tag ≡ none = λ t l o. not-there (i .rest .full .state) tag free t (omega (arith, k .later)) o in
           ran (λ s c. setProgram s c now tag reading) p (set-goes (head-sound i) f now tag known reading sound left) (set-head s c now f tag reading)
           (after-set (i .rest) (i .booked) now (k .later) (k .ends) tag reading known free)
-          (λ t g o. sym (readings-set (a .log) now tag reading t g (λ l. absent t l o))) (once-set now tag (i .once) reading absent)
+          (λ t g o. sym (tellings-set (a .log) now tag reading t g (λ l. absent t l o))) (once-set now tag (i .once) reading absent)
           (timed-more (Set now tag reading) (k .since) (omega arith) (i .timed)) (counted-set now tag (omega (arith, k .ends)) (i .counted))
 
   -- ---- a clear, and a new reading
@@ -166,7 +166,7 @@ module _ {ws : List ℕ} {a : Account} (i : Honest ws a) where
       let w = found 0 tag (q .1) in
       let sound = clear-sound c f (i .rest) f itself tag (w .known) (w .stands) 0 in
       ran (λ s c. clearProgram s c now tag) p (clear-call-goes (head-sound i) f now tag (w .known) (w .stands) sound (w .left)) (clear-head s c now f tag)
-      (after-clear (i .rest) (i .booked) now (k .later) (k .ends) tag (w .stands)) (λ t g o. sym (readings-clear (a .log) now tag t g)) (once-clear now tag (i .once))
+      (after-clear (i .rest) (i .booked) now (k .later) (k .ends) tag (w .stands)) (λ t g o. sym (tellings-clear (a .log) now tag t g)) (once-clear now tag (i .once))
       (timed-more (Clear now tag) (k .since) (omega arith) (i .timed)) (counted-clear now tag (omega (arith, k .ends)) (i .counted))
 
   honest-update : (now tag reading : ℕ) → Passed (Update now tag reading) → Honest (step ws (Update now tag reading) .store) (enters a (Update now tag reading))
@@ -178,7 +178,7 @@ module _ {ws : List ℕ} {a : Account} (i : Honest ws a) where
       let sound = clear-sound c f (i .rest) f itself tag (w .known) (w .stands) 1 in
       ran (λ s c. updateProgram s c now tag reading) p (update-goes (head-sound i) f now tag (w .known) (w .stands) reading sound (w .left))
       (update-head s c now f tag reading) (after-update (i .rest) (i .booked) now (k .later) (k .ends) tag (w .stands) reading (w .known))
-      (λ t g o. sym (readings-update (a .log) now tag reading t g)) (once-update now tag (i .once) reading)
+      (λ t g o. sym (tellings-update (a .log) now tag reading t g)) (once-update now tag (i .once) reading)
       (timed-more (Update now tag reading) (k .since) (omega arith) (i .timed)) (counted-update now tag (omega (arith, k .ends)) (i .counted))
 
 -- ---- a start, on any words

@@ -13,10 +13,12 @@ use borrow.Author.Tests.{eq-eqb, ne-eqb, leb-true}
 use Rattle.base.specs.Branch.{by-test, by-eqb, is?, cond-all, eqb-same}
 use Rattle.base.specs.Sums.{totals, is}
 use Rattle.base.specs.Pigeonhole.{keyed}
+use Rattle.layout.specs.declared.payload.Payload.{Payload}
 use Rattle.layout.specs.Sizes.{OPEN}
+use Rattle.layout.specs.Payload.{newPayload}
 use Rattle.calls.specs.Calls.{Call, Set, Clear, Update, Row}
 use Rattle.calls.specs.Log.{Log, without, andRow, tells, stateFrom, stateAt}
-use Rattle.theory.specs.Timeline.{Reading, none, some, logged}
+use Rattle.theory.specs.Timeline.{Telling, none, some, logged}
 use Rattle.theory.specs.MemberLaws.{Unique, unique-nil, member-counted}
 
 -- ---- one change more
@@ -30,11 +32,11 @@ state-from-last t rows (d ∷ log) c = state-from-last t (tells t rows d) log c
 pub state-last : (log : Log) (c : Call) (t : ℕ) → stateAt (log ++ (c ∷ [])) t ≡ tells t (stateAt log t) c
 state-last log c t = state-from-last t [] log c
 
--- ---- the reading of a tag in a list of rows
+-- ---- what a list of rows tells of a tag
 
-abbrev pub readingIn : List Row → ℕ → Reading
-readingIn [] tag = none
-readingIn (r ∷ l) tag = cond (eqb (r .tag) tag) (some (r .reading)) (readingIn l tag)
+abbrev pub tellingIn : List Row → ℕ → Telling
+tellingIn [] tag = none
+tellingIn (r ∷ l) tag = cond (eqb (r .tag) tag) (some (r .payload)) (tellingIn l tag)
 
 -- Two tests of one tag for different ones may change places; a test made once needs no second time.
 apart : {A : Type 0} {one other : ℕ} (tag : ℕ) (x y z : A) → one ≢ other
@@ -48,106 +50,113 @@ twice : {A : Type 0} (b : Bool) (x y z : A) → cond b x z ≡ cond b x (cond b 
 twice true x y z = refl
 twice false x y z = refl
 
-no-reading : {A : Type 0} {x : ℕ} → some x ≡ none → A
-no-reading e = let z : _≡_ {A = ℕ} 0 1 = cc in absurd (omega arith)
+no-telling : {A : Type 0} {x : Payload} → some x ≡ none → A
+no-telling e = let z : _≡_ {A = ℕ} 0 1 = cc in absurd (omega arith)
 
 -- Without a tag's rows it has none, and all others keep theirs.
-pub reading-without : (tag asked : ℕ) (l : List Row) → readingIn (without tag l) asked ≡ cond (eqb tag asked) none (readingIn l asked)
-reading-without tag asked [] = by-test (eqb tag asked) (λ b. none ≡ cond b none none) (λ e. refl) (λ e. refl)
-reading-without tag asked (r ∷ l) =
-    by-eqb (r .tag) tag (λ b. readingIn (cond b (without tag l) (r ∷ without tag l)) asked ≡ cond (eqb tag asked) none (readingIn (r ∷ l) asked))
-    (λ e. rw (e, reading-without tag asked l) (twice (eqb tag asked) _ _ _))
-    (λ d. rw (reading-without tag asked l) (apart asked _ _ _ d))
+pub telling-without : (tag asked : ℕ) (l : List Row) → tellingIn (without tag l) asked ≡ cond (eqb tag asked) none (tellingIn l asked)
+telling-without tag asked [] = by-test (eqb tag asked) (λ b. none ≡ cond b none none) (λ e. refl) (λ e. refl)
+telling-without tag asked (r ∷ l) =
+    by-eqb (r .tag) tag (λ b. tellingIn (cond b (without tag l) (r ∷ without tag l)) asked ≡ cond (eqb tag asked) none (tellingIn (r ∷ l) asked))
+    (λ e. rw (e, telling-without tag asked l) (twice (eqb tag asked) _ _ _))
+    (λ d. rw (telling-without tag asked l) (apart asked _ _ _ d))
 
-without-none : (tag : ℕ) (l : List Row) → readingIn (without tag l) tag ≡ none
-without-none tag l = rw (reading-without tag tag l, eqb-same tag)
+without-none : (tag : ℕ) (l : List Row) → tellingIn (without tag l) tag ≡ none
+without-none tag l = rw (telling-without tag tag l, eqb-same tag)
 
--- A row more, of a tag that has no reading: it has this one, and all others keep theirs.
-pub reading-and : (tag reading asked : ℕ) (l : List Row) → readingIn l tag ≡ none
-    → readingIn (andRow tag reading l) asked ≡ cond (eqb tag asked) (some reading) (readingIn l asked)
-reading-and tag reading asked [] e = refl
-reading-and tag reading asked (r ∷ l) e = is? (r .tag) tag
-    (λ q. no-reading (rw (eq-eqb (r .tag) tag q) at e))
-    (λ d. rw (reading-and tag reading asked l (rw (ne-eqb (r .tag) tag d) at e)) (apart asked _ _ _ d))
+-- A row more, of a tag of which nothing is told: this is told of it, and of all others what was.
+pub telling-and : (tag : ℕ) (p : Payload) (asked : ℕ) (l : List Row) → tellingIn l tag ≡ none
+    → tellingIn (andRow tag p l) asked ≡ cond (eqb tag asked) (some p) (tellingIn l asked)
+telling-and tag p asked [] e = refl
+telling-and tag p asked (r ∷ l) e = is? (r .tag) tag
+    (λ q. no-telling (rw (eq-eqb (r .tag) tag q) at e))
+    (λ d. rw (telling-and tag p asked l (rw (ne-eqb (r .tag) tag d) at e)) (apart asked _ _ _ d))
 
 -- ---- the log as a function of second and tag
 
-abbrev pub readings : Log → ℕ → ℕ → Reading
-readings log t tag = readingIn (stateAt log t) tag
+abbrev pub tellings : Log → ℕ → ℕ → Telling
+tellings log t tag = tellingIn (stateAt log t) tag
 
--- Rows that change from s on, and there by one tag's reading.
-from-then : (s t tag asked : ℕ) (x : Reading) (new old : List Row)
-    → (s ≤ t → readingIn new asked ≡ cond (eqb tag asked) x (readingIn old asked))
-    → readingIn (cond (leb s t) new old) asked ≡ cond (leb s t && eqb tag asked) x (readingIn old asked)
+-- Rows that change from s on, and there in what they tell of one tag.
+from-then : (s t tag asked : ℕ) (x : Telling) (new old : List Row)
+    → (s ≤ t → tellingIn new asked ≡ cond (eqb tag asked) x (tellingIn old asked))
+    → tellingIn (cond (leb s t) new old) asked ≡ cond (leb s t && eqb tag asked) x (tellingIn old asked)
 from-then s t tag asked x new old f =
-    by-test (leb s t) (λ b. readingIn (cond b new old) asked ≡ cond (b && eqb tag asked) x (readingIn old asked))
+    by-test (leb s t) (λ b. tellingIn (cond b new old) asked ≡ cond (b && eqb tag asked) x (tellingIn old asked))
     (λ e. f (leb-true s t e))
     (λ e. refl)
 
 module _ (log : Log) (s tag : ℕ) where
-  -- A set logs its reading, where the tag had none.
-  pub readings-set : (reading t asked : ℕ) → (s ≤ t → readings log t tag ≡ none)
-      → readings (log ++ (Set s tag reading ∷ [])) t asked ≡ logged s tag (some reading) (readings log) t asked
-  readings-set reading t asked absent =
+  -- A set logs its reading, where nothing was told of the tag.
+  pub tellings-set : (reading t asked : ℕ) → (s ≤ t → tellings log t tag ≡ none)
+      → tellings (log ++ (Set s tag reading ∷ [])) t asked ≡ logged s tag (some (newPayload reading)) (tellings log) t asked
+  tellings-set reading t asked absent =
       rw (state-last log (Set s tag reading) t)
-      (from-then s t tag asked (some reading) (andRow tag reading (stateAt log t)) (stateAt log t)
-      (λ p. reading-and tag reading asked (stateAt log t) (absent p)))
+      (from-then s t tag asked (some (newPayload reading)) (andRow tag (newPayload reading) (stateAt log t)) (stateAt log t)
+      (λ p. telling-and tag (newPayload reading) asked (stateAt log t) (absent p)))
 
   -- A clear logs that there is none.
-  pub readings-clear : (t asked : ℕ) → readings (log ++ (Clear s tag ∷ [])) t asked ≡ logged s tag none (readings log) t asked
-  readings-clear t asked =
+  pub tellings-clear : (t asked : ℕ) → tellings (log ++ (Clear s tag ∷ [])) t asked ≡ logged s tag none (tellings log) t asked
+  tellings-clear t asked =
       rw (state-last log (Clear s tag) t)
-      (from-then s t tag asked none (without tag (stateAt log t)) (stateAt log t) (λ p. reading-without tag asked (stateAt log t)))
+      (from-then s t tag asked none (without tag (stateAt log t)) (stateAt log t) (λ p. telling-without tag asked (stateAt log t)))
 
   -- A new reading logs both.
-  pub readings-update : (reading t asked : ℕ)
-      → readings (log ++ (Update s tag reading ∷ [])) t asked ≡ logged s tag (some reading) (logged s tag none (readings log)) t asked
-  readings-update reading t asked =
+  pub tellings-update : (reading t asked : ℕ)
+      → tellings (log ++ (Update s tag reading ∷ [])) t asked ≡ logged s tag (some (newPayload reading)) (logged s tag none (tellings log)) t asked
+  tellings-update reading t asked =
       let rows = stateAt log t in
       rw (state-last log (Update s tag reading) t)
-      (from-then s t tag asked (some reading) (andRow tag reading (without tag rows)) rows
-      (λ p. reading-and tag reading asked (without tag rows) (without-none tag rows)
-      ∙ rw (reading-without tag asked rows) (sym (twice (eqb tag asked) _ _ _)))
+      (from-then s t tag asked (some (newPayload reading)) (andRow tag (newPayload reading) (without tag rows)) rows
+      (λ p. telling-and tag (newPayload reading) asked (without tag rows) (without-none tag rows)
+      ∙ rw (telling-without tag asked rows) (sym (twice (eqb tag asked) _ _ _)))
       ∙ twice (leb s t && eqb tag asked) _ _ _)
 
--- ---- the rows of a list and their readings
+-- ---- the rows of a list and what they tell
 
--- Two rows are equal or not.
-pub row-discrete : Discrete Row
-row-discrete x y = go (ℕ-discrete (x .tag) (y .tag)) (ℕ-discrete (x .reading) (y .reading))
+-- Two payloads are equal or not, and so are two rows.
+payload-discrete : Discrete Payload
+payload-discrete x y = go (ℕ-discrete (x .reading) (y .reading))
   where
-    go : Dec (x .tag ≡ y .tag) → Dec (x .reading ≡ y .reading) → Dec (x ≡ y)
-    go (yes p) (yes q) = yes (ap₂ {C = Row} (λ (tag reading : ℕ). record { tag = tag; reading = reading }) p q)
-    go (yes p) (no d) = no (λ e. d (ap (λ (r : Row). r .reading) e))
+    go : Dec (x .reading ≡ y .reading) → Dec (x ≡ y)
+    go (yes p) = yes (ap newPayload p)
+    go (no d) = no (λ e. d (ap (λ (p : Payload). p .reading) e))
+
+pub row-discrete : Discrete Row
+row-discrete x y = go (ℕ-discrete (x .tag) (y .tag)) (payload-discrete (x .payload) (y .payload))
+  where
+    go : Dec (x .tag ≡ y .tag) → Dec (x .payload ≡ y .payload) → Dec (x ≡ y)
+    go (yes p) (yes q) = yes (ap₂ {C = Row} (λ (tag : ℕ) (p : Payload). record { tag = tag; payload = p }) p q)
+    go (yes p) (no d) = no (λ e. d (ap (λ (r : Row). r .payload) e))
     go (no d) q = no (λ e. d (ap (λ (r : Row). r .tag) e))
 
 abbrev pub UniqueTags : List Row → Type 0
 UniqueTags = Unique (λ r. r .tag)
 
--- Where a tag has no reading, none is counted.
-none-counted : (tag : ℕ) (l : List Row) → readingIn l tag ≡ none → keyed (λ r. r .tag) tag l ≡ 0
+-- Where nothing is told of a tag, none of its rows is counted.
+none-counted : (tag : ℕ) (l : List Row) → tellingIn l tag ≡ none → keyed (λ r. r .tag) tag l ≡ 0
 none-counted tag [] e = simp totals
 none-counted tag (r ∷ l) e = is? (r .tag) tag
-    (λ q. no-reading (rw (eq-eqb (r .tag) tag q) at e))
+    (λ q. no-telling (rw (eq-eqb (r .tag) tag q) at e))
     (λ d. simp (totals, ne-eqb tag (r .tag) (λ q. d (sym q))) (omega (arith, none-counted tag l (rw (ne-eqb (r .tag) tag d) at e))))
 
--- A tag's reading stands in a row.
-pub reading-member : (tag reading : ℕ) (l : List Row) → readingIn l tag ≡ some reading
-    → List·Memᴰ (record { tag = tag; reading = reading }) l
-reading-member tag reading [] e = no-reading (sym e)
-reading-member tag reading (r ∷ l) e = is? (r .tag) tag
+-- What is told of a tag stands in a row.
+pub telling-member : (tag : ℕ) (p : Payload) (l : List Row) → tellingIn l tag ≡ some p
+    → List·Memᴰ (record { tag = tag; payload = p }) l
+telling-member tag p [] e = no-telling (sym e)
+telling-member tag p (r ∷ l) e = is? (r .tag) tag
     (λ q.
-    let f : some (r .reading) ≡ some reading = rw (eq-eqb (r .tag) tag q) at e in
-    let z : r .reading ≡ reading = cc in
+    let f : some (r .payload) ≡ some p = rw (eq-eqb (r .tag) tag q) at e in
+    let z : r .payload ≡ p = cc in
     List·Memᴰ·head (rw (← q, ← z)))
-    (λ d. List·Memᴰ·tail (reading-member tag reading l (rw (ne-eqb (r .tag) tag d) at e)))
+    (λ d. List·Memᴰ·tail (telling-member tag p l (rw (ne-eqb (r .tag) tag d) at e)))
 
--- And where no tag stands twice, a row is its tag's reading.
-pub member-reading : {r : Row} {l : List Row} → UniqueTags l → List·Memᴰ r l → readingIn l (r .tag) ≡ some (r .reading)
-member-reading {r} u (List·Memᴰ·head {x = y} e) = rw (← e, eqb-same (r .tag))
-member-reading {r} u (List·Memᴰ·tail {x = y} {xs = l} i) =
+-- And where no tag stands twice, a row is what is told of its tag.
+pub member-telling : {r : Row} {l : List Row} → UniqueTags l → List·Memᴰ r l → tellingIn l (r .tag) ≡ some (r .payload)
+member-telling {r} u (List·Memᴰ·head {x = y} e) = rw (← e, eqb-same (r .tag))
+member-telling {r} u (List·Memᴰ·tail {x = y} {xs = l} i) =
     let rest : UniqueTags l = record { once = λ m. omega (arith, simp totals at (u .once m)) } in
-    rw (ne-eqb (y .tag) (r .tag) other) (member-reading rest i)
+    rw (ne-eqb (y .tag) (r .tag) other) (member-telling rest i)
   where
     other : y .tag ≢ r .tag
     other q = omega (arith, simp (totals, eq-eqb (r .tag) (y .tag) (sym q)) at (u .once (r .tag)), member-counted (λ x. x .tag) i)
@@ -163,8 +172,8 @@ without-fewer m tag (r ∷ l) = cond-all (λ rows. keyed (λ r. r .tag) m rows �
 unique-without : (tag : ℕ) (l : List Row) → UniqueTags l → UniqueTags (without tag l)
 unique-without tag l u = record { once = λ m. omega (arith, without-fewer m tag l, u .once m) }
 
-unique-and : (tag reading : ℕ) (l : List Row) → readingIn l tag ≡ none → UniqueTags l → UniqueTags (andRow tag reading l)
-unique-and tag reading l e u = record {
+unique-and : (tag : ℕ) (p : Payload) (l : List Row) → tellingIn l tag ≡ none → UniqueTags l → UniqueTags (andRow tag p l)
+unique-and tag p l e u = record {
   once = λ m. simp totals (by-eqb m tag (λ b. keyed (λ r. r .tag) m l + (is b + 0) ≤ 1)
       (λ q. rw q (omega (arith, none-counted tag l e)))
       (λ d. omega (arith, u .once m)));
@@ -186,15 +195,15 @@ module _ {log : Log} (s tag : ℕ) (i : Once log) where
   }
 
   -- A set, of a tag that stands at no second from its own on.
-  pub once-set : (reading : ℕ) → ((t : ℕ) → s ≤ t → t < OPEN → readings log t tag ≡ none) → Once (log ++ (Set s tag reading ∷ []))
-  once-set reading absent = once-from (Set s tag reading) (λ t. andRow tag reading (stateAt log t)) (λ t. refl)
-      (λ t p o. unique-and tag reading (stateAt log t) (absent t p o) (i .at t o))
+  pub once-set : (reading : ℕ) → ((t : ℕ) → s ≤ t → t < OPEN → tellings log t tag ≡ none) → Once (log ++ (Set s tag reading ∷ []))
+  once-set reading absent = once-from (Set s tag reading) (λ t. andRow tag (newPayload reading) (stateAt log t)) (λ t. refl)
+      (λ t p o. unique-and tag (newPayload reading) (stateAt log t) (absent t p o) (i .at t o))
 
   pub once-clear : Once (log ++ (Clear s tag ∷ []))
   once-clear = once-from (Clear s tag) (λ t. without tag (stateAt log t)) (λ t. refl) (λ t p o. unique-without tag (stateAt log t) (i .at t o))
 
   pub once-update : (reading : ℕ) → Once (log ++ (Update s tag reading ∷ []))
-  once-update reading = once-from (Update s tag reading) (λ t. andRow tag reading (without tag (stateAt log t))) (λ t. refl)
+  once-update reading = once-from (Update s tag reading) (λ t. andRow tag (newPayload reading) (without tag (stateAt log t))) (λ t. refl)
       (λ t p o.
       let rows = stateAt log t in
-      unique-and tag reading (without tag rows) (without-none tag rows) (unique-without tag rows (i .at t o)))
+      unique-and tag (newPayload reading) (without tag rows) (without-none tag rows) (unique-without tag rows (i .at t o)))

@@ -13,13 +13,13 @@ use Rattle.layout.specs.declared.head.Head.{Head}
 use Rattle.layout.specs.declared.address.Address.{Address}
 use Rattle.layout.specs.declared.address.Address.the-variants.{Time, Field, Slot}
 use Rattle.layout.specs.Sizes.{OPEN, levelLen, pageLen, bitsStart, recordLen}
-use Rattle.layout.specs.Fields.{closedWord, upWord, leftWord, childWord, tagWord, readingWord, fromWord, toWord}
+use Rattle.layout.specs.Fields.{closedWord, upWord, leftWord, childWord, tagWord, fromWord, toWord}
 use Rattle.layout.specs.Address.{Valid, Numbered}
 use Rattle.layout.specs.Memory.{Memory}
 use Rattle.layout.specs.Head.{headOf}
 use Rattle.layout.specs.Words.{readWord}
 use Rattle.layout.specs.Parts.{blockWord, slotWord}
-use Rattle.layout.specs.PartsLaws.{block-word, slot-word, page-word}
+use Rattle.layout.specs.PartsLaws.{block-word, slot-word, page-word, payload-same}
 use Rattle.layout.specs.OverLaws.{over-read}
 use Rattle.calls.specs.Calls.{Row}
 use Rattle.calls.specs.Walk.{entries, Reader}
@@ -75,7 +75,7 @@ module _ {ws : List ℕ} {h : Head} {f : Memory} (i : Stored ws h f) where
   pub slot-holds : (n k : ℕ) → Numbered (h .settings) n → k < h .settings .block → SlotHolds (reader ws .block n) k (recordsOf f n k)
   slot-holds n k v b = record {
     tag = reader-slot n k tagWord v b (omega arith);
-    reading = reader-slot n k readingWord v b (omega arith);
+    payload = payload-same (λ j l. reader-slot n k j v b l);
     from = reader-slot n k fromWord v b (omega arith);
     to = reader-slot n k toWord v b (omega arith);
   }

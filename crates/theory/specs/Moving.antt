@@ -18,9 +18,10 @@ use Rattle.layout.specs.declared.settings.Settings.{Settings}
 use Rattle.layout.specs.Sizes.{OPEN}
 use Rattle.layout.specs.declared.head.Cursor.{Cursor}
 use Rattle.layout.specs.declared.address.Address.the-variants.{Slot}
-use Rattle.layout.specs.Fields.{tagWord, readingWord}
+use Rattle.layout.specs.Fields.{tagWord}
 use Rattle.layout.specs.Memory.{Memory}
 use Rattle.layout.specs.Program.{runOn}
+use Rattle.layout.specs.Payload.{payloadAt}
 use Rattle.calls.specs.Placing.{placeOf, unlink, endRecord, putRecord, moveRecord}
 use Rattle.theory.specs.Row.{Unlinked, Opened, Put, BlockView}
 use Rattle.theory.specs.Records.{Record, Records, Stands, endedAt, begunAt, place?, PutAt, Emptied}
@@ -213,19 +214,19 @@ module _ {s : Settings} {Due : ℕ → Type 0} {now : ℕ} {log : Timeline} {x :
 
 -- what moveRecord does
 pub move-effect : (s : Settings) (c : Cursor) (f : Memory) (now x k : ℕ) → let g = (runOn (endRecord x k now) f) .1 in
-    let h = (runOn (putRecord s c now (f (Slot x k tagWord)) (f (Slot x k readingWord))) g) .1 in
+    let h = (runOn (putRecord s c now (f (Slot x k tagWord)) (payloadAt f x k)) g) .1 in
     MovedAt s (shape c f) now x k (recordsOf g) (recordsOf h) (marksOf g) (marksOf h) (directoryOf h)
 unfolding endRecord
 move-effect s c f now x k =
     let g = (runOn (endRecord x k now) f) .1 in
     let tag = f (Slot x k tagWord) in
-    let reading = f (Slot x k readingWord) in
+    let p = payloadAt f x k in
     record {
       ends = end-records x k now f;
-      begins = put-records s c now tag reading g;
+      begins = put-records s c now tag p g;
       mark-off = end-marks x k now f;
-      mark-on = put-marks s c now tag reading g;
-      finds = put-directory s c now tag reading g;
+      mark-on = put-marks s c now tag p g;
+      finds = put-directory s c now tag p g;
     }
 
 module _ {s : Settings} where

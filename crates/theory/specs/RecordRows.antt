@@ -12,19 +12,20 @@ use Rattle.base.specs.Branch.{by-eqb, cond-all, and-true, and-is}
 use Rattle.base.specs.Sums.{total, totals, total-none, is, sumTo, sumTo-same}
 use Rattle.base.specs.SameRows.{Same}
 use Rattle.layout.specs.Sizes.{OPEN}
-use Rattle.layout.specs.Fields.{tagWord, readingWord, fromWord, toWord}
+use Rattle.layout.specs.Fields.{tagWord, fromWord, toWord}
 use Rattle.layout.specs.Parts.{slotWord}
+use Rattle.layout.specs.Payload.{payloadIn}
 use Rattle.calls.specs.Calls.{Row}
 use Rattle.calls.specs.Log.{Log, stateAt}
 use Rattle.calls.specs.Walk.{rowOf, rowsOf}
 use Rattle.theory.specs.Row.{BlockView}
 use Rattle.theory.specs.Records.{Record, Records, Stands, Kept}
-use Rattle.theory.specs.Timeline.{Timeline, Told, Reading, some}
+use Rattle.theory.specs.Timeline.{Timeline, Told, Telling, some}
 use Rattle.theory.specs.MemberLaws.{unique-nil, Among, all-members, same-members, sumTo-below, joined, joined-nil, total-joined, joined-members, members-joined, unique-joined}
-use Rattle.theory.specs.LogLaws.{readings, reading-member, member-reading, UniqueTags, Once}
+use Rattle.theory.specs.LogLaws.{tellings, telling-member, member-telling, UniqueTags, Once}
 
 abbrev pub rowOfRecord : Record → Row
-rowOfRecord r = record { tag = r .tag; reading = r .reading }
+rowOfRecord r = record { tag = r .tag; payload = r .payload }
 
 -- its row, if it stands at t
 unfoldable pub standingRow : ℕ → Record → List Row
@@ -74,17 +75,17 @@ from-record t r x = by-standing t r (λ l. List·Memᴰ x l → FromRecord t r x
     (λ w i. record { stands = w; row = List·Memᴰ·eq-of-singleton i })
     (λ d i. absurd (List·Memᴰ·not-nil i))
 
--- A record and a row of one tag, each with the tag's reading.
-its-row : (r : Record) {x : Row} (l : ℕ → Reading) → l (x .tag) ≡ some (x .reading) → r .tag ≡ x .tag → l (r .tag) ≡ some (r .reading)
+-- A record and a row of one tag, each with what is told of it.
+its-row : (r : Record) {x : Row} (l : ℕ → Telling) → l (x .tag) ≡ some (x .payload) → r .tag ≡ x .tag → l (r .tag) ≡ some (r .payload)
     → x ≡ rowOfRecord r
-its-row r {x} l e q s = let v : x .reading ≡ r .reading = cc in rw (q, ← v)
+its-row r {x} l e q s = let v : x .payload ≡ r .payload = cc in rw (q, ← v)
 
 -- ---- a block
 
 -- The words of slot k are the record.
 pub record SlotHolds (block : List ℕ) (k : ℕ) (r : Record) : Type 0 where
   pub tag : slotWord block k tagWord ≡ r .tag
-  pub reading : slotWord block k readingWord ≡ r .reading
+  pub payload : payloadIn block k ≡ r .payload
   pub from : slotWord block k fromWord ≡ r .from
   pub to : slotWord block k toWord ≡ r .to
 
@@ -95,7 +96,7 @@ unfolding rowsOf rowOf standingRows standingRow joined
 rows-of-records zero t block f h = refl
 rows-of-records (suc b) t block f h =
     let s = h b (omega arith) in
-    rw (rows-of-records b t block f (λ k p. h k (omega arith)), s .tag, s .reading, s .from, s .to)
+    rw (rows-of-records b t block f (λ k p. h k (omega arith)), s .tag, s .payload, s .from, s .to)
 
 -- Where none stands, there are none.
 pub rows-none : (b t : ℕ) (f : ℕ → Record) → ((k : ℕ) → k < b → Stands t (f k) → ⊥) → standingRows b t f ≡ []
@@ -171,20 +172,20 @@ module _ {R : Records} {v : BlockView} {b tags N fill clock : ℕ} (kept : Kept 
       omega (arith, g .ended (ends k) .1, w .lasts))
 
   -- The records tell the log: their rows are the log's, order aside.
-  module _ {log : Log} (once : Once log) (told : Told R (readings log)) (o : t < OPEN) where
+  module _ {log : Log} (once : Once log) (told : Told R (tellings log)) (o : t < OPEN) where
     in-log : Among (rowsAt b N t R) (stateAt log t)
     in-log x i =
         let p = row-from b N t R x i in
         let s = told .sound t (p .block) (p .slot) o (p .from .stands) in
-        rw (p .from .row) (reading-member _ _ (stateAt log t) s)
+        rw (p .from .row) (telling-member _ _ (stateAt log t) s)
 
     in-records : Among (stateAt log t) (rowsAt b N t R)
     in-records x i =
-        let e = member-reading (once .at t o) i in
-        let w = told .whole t (x .tag) (x .reading) o e in
+        let e = member-telling (once .at t o) i in
+        let w = told .whole t (x .tag) (x .payload) o e in
         let p = kept .used (w .0) (w .1) (omega (arith, w .2 .lasts)) in
         let s = told .sound t (w .0) (w .1) o (w .2) in
-        Memᴰ·cast (its-row (R (w .0) (w .1)) (readings log t) e (w .3) s) (row-at b N t R (w .0) (w .1) (p .low) (p .high) (p .slot) (w .2))
+        Memᴰ·cast (its-row (R (w .0) (w .1)) (tellings log t) e (w .3) s) (row-at b N t R (w .0) (w .1) (p .low) (p .high) (p .slot) (w .2))
 
     pub rows-log : Same (rowsAt b N t R) (stateAt log t)
     rows-log = same-members (λ r. r .tag) _ _ (rows-once told b N t o) (once .at t o) in-log in-records

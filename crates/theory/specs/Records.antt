@@ -7,12 +7,13 @@ use native.Mathlib.Omega.{arith}
 use Rattle.base.specs.Branch.{is?}
 use Rattle.layout.specs.Sizes.{OPEN}
 use Rattle.layout.specs.declared.settings.Settings.{Settings}
+use Rattle.layout.specs.declared.payload.Payload.{Payload}
 use Rattle.calls.specs.Placing.{placeOf}
 use Rattle.theory.specs.Row.{Unlinked, Opened, Put, BlockView}
 
 pub record Record : Type 0 where
   pub tag : ℕ
-  pub reading : ℕ
+  pub payload : Payload
   pub from : ℕ
   pub to : ℕ
 
@@ -26,10 +27,10 @@ pub record Stands (t : ℕ) (r : Record) : Type 0 where
 
 -- the record ended at a second, and the one that goes on with it from there
 abbrev pub endedAt : ℕ → Record → Record
-endedAt now r = record { tag = r .tag; reading = r .reading; from = r .from; to = now }
+endedAt now r = record { tag = r .tag; payload = r .payload; from = r .from; to = now }
 
 abbrev pub begunAt : ℕ → Record → Record
-begunAt now r = record { tag = r .tag; reading = r .reading; from = now; to = OPEN }
+begunAt now r = record { tag = r .tag; payload = r .payload; from = now; to = OPEN }
 
 -- ---- one slot
 -- two places are not the same slot

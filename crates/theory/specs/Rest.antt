@@ -23,6 +23,7 @@ use Rattle.layout.specs.Program.{runOn}
 use Rattle.layout.specs.Cursor.{storeCursor}
 use Rattle.layout.specs.Head.{freshHead, placed}
 use Rattle.layout.specs.Fields.{openedWord, closedWord}
+use Rattle.layout.specs.Payload.{newPayload}
 use Rattle.calls.specs.Placing.{place, clearTag, finish, setProgram, clearProgram, updateProgram, advanceProgram}
 use Rattle.calls.specs.Refusals.{tagBlock, copies}
 use Rattle.calls.specs.Book.{Block, Book, emptyBook, bookSet, bookClear, bookUpdate, recordsIn, openings, closings, openAt}
@@ -99,7 +100,7 @@ module _ {s : Settings} {log : Timeline} {k : Book} {c : Cursor} {f : Memory} (i
 
     -- ---- a set
     pub after-set : (tag reading : ℕ) → tag < s .tags → f (Dir tag) ≡ 0
-        → let z = runOn (setProgram s c now tag reading) f in After s now (logged now tag (some reading) log) (bookSet now tag k) (z .0) (z .1)
+        → let z = runOn (setProgram s c now tag reading) f in After s now (logged now tag (some (newPayload reading)) log) (bookSet now tag k) (z .0) (z .1)
     unfolding setProgram
     after-set tag reading known d =
         let z = runOn (place s c now tag reading) f in
@@ -120,7 +121,7 @@ module _ {s : Settings} {log : Timeline} {k : Book} {c : Cursor} {f : Memory} (i
 
       -- ---- a new reading: the tag is free once it is cleared
       pub after-update : (reading : ℕ) → tag < s .tags → let z = runOn (updateProgram s c now tag reading) f in
-          After s now (logged now tag (some reading) (logged now tag none log)) (bookUpdate now tag k) (z .0) (z .1)
+          After s now (logged now tag (some (newPayload reading)) (logged now tag none log)) (bookUpdate now tag k) (z .0) (z .1)
       unfolding updateProgram
       after-update reading known =
           let y = runOn (clearTag s c now tag) f in

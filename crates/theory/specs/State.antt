@@ -16,6 +16,7 @@ use Rattle.layout.specs.Fields.{upWord, tagWord, toWord}
 use Rattle.layout.specs.Settings.{Within}
 use Rattle.layout.specs.Memory.{Memory, put}
 use Rattle.layout.specs.Program.{runOn}
+use Rattle.layout.specs.declared.payload.Payload.{Payload}
 use Rattle.calls.specs.Placing.{placeOf, openBlock, unlink, endRecord, putRecord}
 use Rattle.theory.specs.Row.{Linked, Unlinked, unlinked, opened, later, Put, BlockView}
 use Rattle.theory.specs.Effects.{view, put-is, open-effect, recordsOf, directoryOf, marksOf, end-records, end-marks, put-records, put-directory}
@@ -23,7 +24,7 @@ use Rattle.theory.specs.Effects.{put-marks, open-directory, open-marks-h
 use Rattle.theory.specs.Times.{Indexed, indexed-open, indexed-same, times, open-enters}
 use Rattle.theory.specs.Records.{Record, Records, Stands, place?, Kept, kept-later, kept-put, kept-end, kept-unlink, kept-open, Found, found-put}
 use Rattle.theory.specs.Records.{found-end, found-open, PutAt, endedAt}
-use Rattle.theory.specs.Timeline.{Timeline, Told, told-put, told-end, told-open, Reading, none, some, logged}
+use Rattle.theory.specs.Timeline.{Timeline, Told, told-put, told-end, told-open, Telling, none, some, logged}
 use Rattle.theory.specs.Marks.{Marks, Marked, marked-at, marked-open, Pending, pending-slots, PutBit}
 
 pub record Shape : Type 0 where
@@ -88,7 +89,7 @@ module _ {s : Settings} {Due : ℕ → Type 0} {clock : ℕ} {log : Timeline} {S
   pub free : (tag : ℕ) → S .directory tag ≡ 0 → (t : ℕ) → clock ≤ t → t < OPEN → log t tag ≡ none
   free tag z t a b = go (log t tag) refl
     where
-      go : (r : Reading) → log t tag ≡ r → r ≡ none
+      go : (r : Telling) → log t tag ≡ r → r ≡ none
       go none e = refl
       go (some x) e =
           let w = i .told .whole t tag x b e in
@@ -102,7 +103,7 @@ module _ {s : Settings} {Due : ℕ → Type 0} {clock : ℕ} {log : Timeline} {S
   not-found tag e = is? (S .directory tag) 0 (λ z. z) (λ d.
       let p = i .found .found tag d in
       let w = i .told .sound clock (p .0) (p .1) (i .past) (stands-on (p .0) (p .1) clock (p .2) (omega arith) (i .past)) in
-      let y : log clock tag ≡ some (S .records (p .0) (p .1) .reading) = ap (log clock) (sym (p .3)) ∙ w in
+      let y : log clock tag ≡ some (S .records (p .0) (p .1) .payload) = ap (log clock) (sym (p .3)) ∙ w in
       let z : _≡_ {A = ℕ} 0 1 = cc in
       absurd (omega arith))
 
@@ -187,7 +188,7 @@ module _ {s : Settings} {Due : ℕ → Type 0} {clock now : ℕ} {log : Timeline
   pub begin-state : {records : Records} {marks : Marks} {directory : ℕ → ℕ} {r : Record} → PutAt (S .records) records (S .opened) (S .fill) r
       → PutBit (S .marks) marks (S .opened) (S .fill) 1 → Put (S .directory) directory (r .tag) (placeOf s (S .opened) (S .fill)) → r .from ≡ now
       → r .to ≡ OPEN → r .tag < s .tags → S .directory (r .tag) ≡ 0 → 1 ≤ S .opened → S .fill < s .block
-      → State s Due now (logged now (r .tag) (some (r .reading)) log) (appended S records marks directory)
+      → State s Due now (logged now (r .tag) (some (r .payload)) log) (appended S records marks directory)
   begin-state {r = r} p b d from to known absent low room = record {
     past = ends;
     links = later (i .links) passed;
@@ -265,11 +266,11 @@ module _ {s : Settings} {Due : ℕ → Type 0} {clock now : ℕ} {log : Timeline
       })
 
   -- ---- a set, with room in the acceptor
-  pub set-record : (tag reading : ℕ) → 1 ≤ c .opened → c .fill < s .block → tag < s .tags → f (Dir tag) ≡ 0
-      → let z = runOn (putRecord s c now tag reading) f in State s Due now (logged now tag (some reading) log) (shape (z .0) (z .1))
+  pub set-record : (tag : ℕ) (p : Payload) → 1 ≤ c .opened → c .fill < s .block → tag < s .tags → f (Dir tag) ≡ 0
+      → let z = runOn (putRecord s c now tag p) f in State s Due now (logged now tag (some p) log) (shape (z .0) (z .1))
   unfolding putRecord
-  set-record tag reading low room known d = begin-state i passed ends (put-records s c now tag reading f) (put-marks s c now tag reading f)
-      (put-directory s c now tag reading f) refl refl known d low room
+  set-record tag p low room known d = begin-state i passed ends (put-records s c now tag p f) (put-marks s c now tag p f)
+      (put-directory s c now tag p f) refl refl known d low room
 
   -- ---- a clear: the record ends, and the directory forgets it
   pub clear-record : (n k tag : ℕ) → f (Slot n k toWord) ≡ OPEN → f (Slot n k tagWord) ≡ tag → view c f .closed n ≡ OPEN

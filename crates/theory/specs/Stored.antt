@@ -27,6 +27,8 @@ use Rattle.layout.specs.SettingsLaws.{within-limits}
 use Rattle.layout.specs.ProgramLaws.{Safe, Agree, refine, run-length}
 use Rattle.layout.specs.OnWords.{over}
 use Rattle.layout.specs.OverLaws.{over-may, over-head}
+use Rattle.layout.specs.declared.payload.Payload.{Payload}
+use Rattle.layout.specs.Payload.{newPayload, getPayload, setPayload}
 use Rattle.calls.specs.Placing.{openBlock, unlink, endRecord, standing, putRecord, moveRecord, closeFull, judgeFull, roll, makeRoom, place, replace, close, judge, clearTag, finish, setProgram, clearProgram, updateProgram, advanceProgram}
 use Rattle.theory.specs.RunLaws.{Only, framed, met, _then_}
 use Rattle.theory.specs.Effects.{enter-only}
@@ -73,15 +75,21 @@ only-standing : (n : ℕ) → Only headless (standing n)
 unfolding standing
 only-standing n = ((λ v. tt), λ _. ((λ v. tt), λ _. tt))
 
+only-read : (n k : ℕ) → Only headless (getPayload n k)
+only-read n k = ((λ v. tt), λ _. tt)
+
+only-write : (n k : ℕ) (p : Payload) → Only headless (setPayload n k p)
+only-write n k p = (refl, tt)
+
 module _ (s : Settings) where
-  only-put : (c : Cursor) (now tag reading : ℕ) → Only headless (putRecord s c now tag reading)
+  only-put : (c : Cursor) (now tag : ℕ) (p : Payload) → Only headless (putRecord s c now tag p)
   unfolding putRecord
-  only-put c now tag reading =
-      ((refl, tt), λ _. ((refl, tt), λ _. ((refl, tt), λ _. ((refl, tt), λ _. ((λ v. tt), λ _. ((refl, tt), λ _. ((refl, tt), λ _. tt)))))))
+  only-put c now tag p =
+      ((refl, tt), λ _. (only-write (c .opened) (c .fill) p, λ _. ((refl, tt), λ _. ((refl, tt), λ _. ((λ v. tt), λ _. ((refl, tt), λ _. ((refl, tt), λ _. tt)))))))
 
   only-move : (x now k : ℕ) (c : Cursor) → Only headless (moveRecord s x now k c)
   unfolding moveRecord
-  only-move x now k c = ((λ v. tt), λ tag. ((λ v. tt), λ reading. (only-end x k now, λ _. only-put c now tag reading)))
+  only-move x now k c = ((λ v. tt), λ tag. (only-read x k, λ p. (only-end x k now, λ _. only-put c now tag p)))
 
   only-judge-full : (c : Cursor) (x now : ℕ) → Only headless (judgeFull s c x now)
   unfolding judgeFull closeFull
@@ -93,7 +101,7 @@ module _ (s : Settings) where
 
   only-place : (c : Cursor) (now tag reading : ℕ) → Only headless (place s c now tag reading)
   unfolding place
-  only-place c now tag reading = (only-room c now, λ d. only-put d now tag reading)
+  only-place c now tag reading = (only-room c now, λ d. only-put d now tag (newPayload reading))
 
   only-judge : (c : Cursor) (x now : ℕ) → Only headless (judge s c x now)
   unfolding judge close replace

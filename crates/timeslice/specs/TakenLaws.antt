@@ -10,9 +10,11 @@ use lib.ListN.{length, set, length-append}
 use lib.Seq.{sets}
 use borrow.Author.Tests.{lt-ltb, le-ltb, le-leb, lt-leb}
 use Rattle.base.specs.Branch.{lt?}
+use Rattle.layout.specs.declared.payload.Payload.{Payload}
 use Rattle.layout.specs.Sizes.{rowLen}
-use Rattle.layout.specs.Fields.{tagWord, readingWord, fromWord, toWord}
+use Rattle.layout.specs.Fields.{tagWord, fromWord, toWord}
 use Rattle.layout.specs.Parts.{slotWord}
+use Rattle.layout.specs.Payload.{payloadIn}
 use Rattle.calls.specs.Calls.{Row}
 use Rattle.calls.specs.Walk.{rowOf, rowsOf}
 use Rattle.calls.specs.LookBack.{rowWords}
@@ -61,8 +63,8 @@ module _ (d : ℕ) (buffer : List ℕ) (given t : ℕ) (block : List ℕ) (k : �
     no-room f = rw (le-leb _ t (rw e at g), lt-ltb t _ (rw e′ at h)) (many (omega arith))
 
     -- and one that is written.
-    pub one-row : given < d → {tag reading : ℕ} → tag ≡ slotWord block k tagWord → reading ≡ slotWord block k readingWord
-        → Takes d buffer given (rowOf t block k) (Rows (given + 1)) (set (set buffer (rowLen * given) tag) (rowLen * given + 1) reading)
+    pub one-row : given < d → {tag : ℕ} {p : Payload} → tag ≡ slotWord block k tagWord → p ≡ payloadIn block k
+        → Takes d buffer given (rowOf t block k) (Rows (given + 1)) (set (set buffer (rowLen * given) tag) (rowLen * given + 1) (p .reading))
     unfolding rowOf
     one-row f p q = rw (le-leb _ t (rw e at g), lt-ltb t _ (rw e′ at h), p, q, add-one (rowLen * given))
         (all {now = given + 1} (omega arith) (omega arith) refl)

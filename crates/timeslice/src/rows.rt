@@ -1,6 +1,7 @@
 // The row taker: it is handed a block, a part of the store, and writes the rows that stand at a second behind those already given.
 use layout::fields;
 use layout::parts;
+use layout::payload;
 use layout::settings::Settings;
 ghost use Prim.Native.Nat.{_<_};
 ghost use Rattle.calls.specs.Walk.{rowOf, rowsOf};
@@ -29,9 +30,9 @@ fn take_row(block: &[u32], k: u32, t: u32, s: Settings, rows: &mut [u32], given:
     }
     let at = layout::ROW_LEN * given as usize;
     let tag = parts::slot_word(block, k, fields::TAG);
-    let reading = parts::slot_word(block, k, fields::READING);
+    let told = payload::in_slot(block, k);
     rows[at] = tag;
-    rows[at + 1] = reading;
+    rows[at + 1] = told.reading;
     Took::Rows(given + 1)
 }
 

@@ -3,7 +3,7 @@ use Rattle.layout.specs.Ran.{ran-length}
 use Rattle.layout.specs.Able.{able-first, able-next}
 use Rattle.layout.specs.Moved.{after}
 use Rattle.calls.specs.Placing.{moveRecord}
-use Rattle.placing.proofs.AbleLaws.{reads}
+use Rattle.placing.proofs.AbleLaws.{reads, reads-payload}
 use Rattle.placing.proofs.records.move_record.Statement.{statement}
 use Rattle.placing.proofs.records.move_record.Tie as tie
 
@@ -13,7 +13,7 @@ read-requires c κs = reads _ (c .before .before .before .pre)
 
 read-requires-2 : tie.Need-read-requires-2
 unfolding moveRecord
-read-requires-2 c κs = reads _ (able-next (c .before .before .before .before .before .pre) (c .before .read .ensures))
+read-requires-2 c κs = reads-payload (able-next (c .before .before .before .before .before .pre) (c .before .read .ensures))
 
 end-record-requires : tie.Need-end-record-requires
 unfolding moveRecord

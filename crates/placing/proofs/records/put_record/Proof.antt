@@ -1,11 +1,11 @@
 -- `records::put_record` meets its contract: one step after the other.
 use mathlib.Core.Path.{refl}
 use borrow.Author.Needs.{needs}
-use Rattle.layout.specs.Fields.{readingWord, fromWord, toWord}
+use Rattle.layout.specs.Fields.{fromWord, toWord}
 use Rattle.layout.specs.Ran.{ran-length}
 use Rattle.layout.specs.Moved.{moves, after}
 use Rattle.calls.specs.Placing.{putRecord}
-use Rattle.placing.proofs.AbleLaws.{writes, held-after, slot-after, bits-after, put-spot, put-fill, put-tag}
+use Rattle.placing.proofs.AbleLaws.{writes, held-after, slot-after, spot-after, bits-after, put-spot, put-fill, put-tag}
 use Rattle.placing.proofs.records.put_record.Statement.{statement}
 use Rattle.placing.proofs.records.put_record.Tie as tie
 
@@ -18,8 +18,8 @@ write-requires c κs = writes _ (c .before .before .before .before .pre)
 
 write-requires-2 : tie.Need-write-requires-2
 write-requires-2 c κs =
-    slot-after (put-spot _ _ _ _ (c .before .before .before .before .before .before .before .before .pre))
-    (c .before .before .before .write .ensures) readingWord refl
+    spot-after (put-spot _ _ _ _ (c .before .before .before .before .before .before .before .before .pre))
+    (c .before .before .before .write .ensures)
 
 write-requires-3 : tie.Need-write-requires-3
 write-requires-3 c κs =

@@ -36,7 +36,7 @@ returns-4 c =
     let at-if1 = at-slot-word2 .before in
     let at-slot-word = at-if1 .before in
     one-row _ _ _ _ _ _ (at-slot-word2 .slot-word2 .ensures) (at-if2 .if2 .left) (at-slot-word .slot-word .ensures)
-    (at-if1 .if1 .left) (at-if3 .if3 .left) (c .before .slot-word3 .ensures) (c .slot-word4 .ensures)
+    (at-if1 .if1 .left) (at-if3 .if3 .left) (c .before .slot-word3 .ensures) (c .in-slot .ensures)
 
 pub take-row-spec : {M : Type 1} → statement M
 take-row-spec =
