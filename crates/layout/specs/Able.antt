@@ -6,6 +6,9 @@ use mathlib.Core.List.{List}
 use Prim.Native.Nat.{ℕ}
 use Rattle.layout.specs.declared.settings.Settings.{Settings}
 use Rattle.layout.specs.declared.address.Address.{Address}
+use Rattle.layout.specs.declared.address.Address.the-variants.{Slot}
+use Rattle.layout.specs.declared.payload.Payload.{Payload}
+use Rattle.layout.specs.Fields.{readingWord}
 use Rattle.layout.specs.Address.{Valid, Numbered}
 use Rattle.layout.specs.Memory.{Memory}
 use Rattle.layout.specs.Settings.{Within}
@@ -13,6 +16,8 @@ use Rattle.layout.specs.Program.{Prog, get, set, wipe, bind, when, runOn
 use Rattle.layout.specs.ProgramLaws.{Safe, Agree, refine}
 use Rattle.layout.specs.Ran.{Ran}
 use Rattle.layout.specs.OnWords.{over, Held}
+use Rattle.layout.specs.Payload.{getPayload}
+use Rattle.layout.specs.Spot.{Spot}
 
 pub record Able {A : Type 0} (s : Settings) (p : Prog A) (ws : List ℕ) : Type 0 where
   pub within : Within s
@@ -82,3 +87,9 @@ able-set {s = s} a {v} x = valid-write s (x .memory) a v (x .safe .0)
 
 pub able-wipe : {A : Type 0} {s : Settings} {n : ℕ} {p : Prog A} {ws : List ℕ} → Able s (wipe n p) ws → Numbered s n
 able-wipe {s = s} {n} x = valid-wipe s (x .memory) n (x .safe .0)
+
+-- what the record of a slot tells
+pub able-payload : {A : Type 0} {s : Settings} {n k : ℕ} {j : Payload → Prog A} {ws : List ℕ} → Able s (bind (getPayload n k) j) ws → Spot s n k
+able-payload {n = n} {k} x =
+    let v = able-get (Slot n k readingWord) (able-first (able-first x)) in
+    record { within = x .within; block = v .0; slot = v .1 }

@@ -23,6 +23,6 @@ pub mod PartsLaws
 pub mod HeadLaws
 pub mod StandingLaws
 pub mod OverLaws
+pub mod Spot
 pub mod Able
 pub mod Moved
-pub mod Spot

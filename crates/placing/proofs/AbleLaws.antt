@@ -16,7 +16,7 @@ use Rattle.layout.specs.declared.address.Address.the-variants.{Dir, Field, Bits
 use Rattle.layout.specs.declared.standing.Standing.{Standing}
 use Rattle.layout.specs.declared.payload.Payload.{Payload}
 use Rattle.layout.specs.Sizes.{recordLen, bitsStart}
-use Rattle.layout.specs.Fields.{upWord, rightWord, childWord, closedWord, tagWord, readingWord, toWord}
+use Rattle.layout.specs.Fields.{upWord, rightWord, childWord, closedWord, tagWord, toWord}
 use Rattle.layout.specs.Address.{Valid, Numbered}
 use Rattle.layout.specs.Settings.{Within}
 use Rattle.layout.specs.Spot.{Spot}
@@ -27,7 +27,7 @@ use Rattle.layout.specs.ProgramLaws.{refine}
 use Rattle.layout.specs.Ran.{Ran}
 use Rattle.layout.specs.Moved.{Moved, after, if-taken}
 use Rattle.layout.specs.OnWords.{over, Held}
-use Rattle.layout.specs.Able.{Able, able-held, able-first, able-next, able-taken, able-passed, able-get, able-set, able-wipe}
+use Rattle.layout.specs.Able.{Able, able-held, able-first, able-next, able-taken, able-passed, able-get, able-set, able-wipe, able-payload}
 use Rattle.calls.specs.Placing.{openBlock, unlink, endRecord, standing, putRecord}
 use Rattle.placing.specs.Steps.{Listed}
 
@@ -51,9 +51,7 @@ writes-last a x = (able-set a x, able-held x)
 
 -- what the record of a slot tells is read
 pub reads-payload : {A : Type 0} {s : Settings} {n k : ℕ} {j : Payload → Prog A} {ws : List ℕ} → Able s (bind (getPayload n k) j) ws → Spot s n k × Held s ws
-reads-payload {n = n} {k} x =
-    let v = able-get (Slot n k readingWord) (able-first (able-first x)) in
-    (record { within = x .within; block = v .0; slot = v .1 }, able-held x)
+reads-payload x = (able-payload x, able-held x)
 
 -- the standing slots of block n are read
 pub asks-standing : {A : Type 0} {s : Settings} {n : ℕ} {k : List ℕ → Prog A} {ws : List ℕ} → Able s (bind (standing n) k) ws → Numbered s n × Held s ws

@@ -51,7 +51,7 @@ fn count_look_backs<R: Calls>(store: &mut [u32], settings: Settings, changes: &[
     for change in changes {
         input::apply::<Independent>(store, change).expect("the changes are cut at the first refusal");
     }
-    let (mut rows, mut list) = (vec![0; 2 * settings.tags as usize], vec![0; settings.blocks as usize]);
+    let (mut rows, mut list) = (vec![0; settings.row_words()], vec![0; settings.blocks as usize]);
     let call: LookBackCall = |store, t, rows, list| R::look_back(store, t, rows, list).is_ok();
     let seconds: Vec<u32> = [5, 50, 99].into_iter().flat_map(|from| input::seconds(changes, from, 100)).collect();
     for &t in &seconds {

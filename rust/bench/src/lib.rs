@@ -15,7 +15,7 @@
 //! Independent::clear(&mut store, 12, 3)?;
 //! assert_eq!(Independent::clear(&mut store, 12, 3), Err(Refusal::NOT_STANDING));
 //!
-//! let (mut rows, mut list) = (vec![0; 2 * 16], vec![0; 8]);
+//! let (mut rows, mut list) = (vec![0; settings.row_words()], vec![0; 8]);
 //! let answer = Independent::look_back(&store, 11, &mut rows, &mut list)?;
 //! assert_eq!((answer.rows, answer.blocks), (1, 1));
 //! assert_eq!((rows[0], rows[1] as i32), (3, -25));
@@ -33,7 +33,7 @@ pub use independent::Independent;
 #[cfg(feature = "proved")]
 pub use proved::Proved;
 pub use refusal::Refusal;
-pub use settings::Settings;
+pub use settings::{ROW, Settings};
 
 /// An end not yet known, and no second: the largest word.
 pub const OPEN: u32 = u32::MAX;

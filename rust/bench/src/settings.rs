@@ -1,5 +1,14 @@
 //! The settings of a register and the length of its layout.
 
+/// Words of a block's head.
+pub const BLOCK_HEAD: usize = 8;
+
+/// Words of a record: tag, reading, from, to.
+pub const RECORD: usize = 4;
+
+/// Words of a row that a look-back gives: tag, reading.
+pub const ROW: usize = 2;
+
 /// b, q, B and D of document 01. A start turns away those outside their limits.
 #[derive(Clone, Copy, Debug, PartialEq, Eq)]
 pub struct Settings {
@@ -14,9 +23,14 @@ pub struct Settings {
 }
 
 impl Settings {
-    /// Words of a block: a head of 8, then 4 for each record.
+    /// Words of a block: its head, then its records.
     pub fn block_words(&self) -> usize {
-        8 + 4 * self.block as usize
+        BLOCK_HEAD + RECORD * self.block as usize
+    }
+
+    /// Words of a row buffer that has a row for each tag.
+    pub fn row_words(&self) -> usize {
+        ROW * self.tags as usize
     }
 
     /// Words of the layout, for settings within their limits: head, index, directory, blocks.

@@ -71,7 +71,7 @@ fn draw_look_back(s: Settings, store: &[u32], rng: &mut Rng) -> Call {
         1 | 2 => clock,
         _ => rng.below(clock.max(1)),
     };
-    let (rows, list) = (2 * s.tags as usize, s.blocks as usize);
+    let (rows, list) = (s.row_words(), s.blocks as usize);
     let (less, more) = (usize::from(rng.chance(1, 60)), rng.below(3) as usize);
     Call::LookBack { second, rows: rows + more - less * rng.below(2) as usize, list: list + more - less }
 }

@@ -1,6 +1,6 @@
 //! The proved register against the plain log (demand 2) and the block book (demand 3) of document 01.
 mod common;
-use bench::{Answer, Calls, OPEN, Proved, Refusal, Settings};
+use bench::{Answer, Calls, OPEN, Proved, ROW, Refusal, Settings};
 use common::book::Book;
 use common::damage::Map;
 use common::history::{History, TEMPERS, Temper};
@@ -109,10 +109,10 @@ impl Witness {
     /// Demand 2: each condition of the log at t once, with its reading, and no other.
     fn check_rows(&self, t: u32, answer: Answer, rows: &[u32]) {
         let told: BTreeMap<u32, i32> =
-            rows.chunks(2).take(answer.rows as usize).map(|row| (row[0], row[1] as i32)).collect();
+            rows.chunks(ROW).take(answer.rows as usize).map(|row| (row[0], row[1] as i32)).collect();
         assert_eq!(told.len(), answer.rows as usize, "a tag twice at {t}");
         assert!(told == self.log.state(t), "rows at {t}");
-        assert!(rows[2 * answer.rows as usize..].iter().all(|&word| word == 9), "words after the rows at {t}");
+        assert!(rows[ROW * answer.rows as usize..].iter().all(|&word| word == 9), "words after the rows at {t}");
     }
 
     /// Demand 3: no block twice, at most twice the open ones; those open, times q, at most the rows plus q.
@@ -164,7 +164,7 @@ impl Witness {
 }
 
 fn short_buffer(s: Settings, call: Call) -> bool {
-    matches!(call, Call::LookBack { rows, list, .. } if rows < 2 * s.tags as usize || list < s.blocks as usize)
+    matches!(call, Call::LookBack { rows, list, .. } if rows < s.row_words() || list < s.blocks as usize)
 }
 
 fn run(s: Settings, temper: Temper, calls: u32, seed: u64) -> (u64, u64) {

@@ -31,7 +31,7 @@ fn all_calls(s: Settings) -> Vec<Call> {
             calls.push(Call::Clear { second, tag });
             calls.push(Call::Update { second, tag, reading: -1 });
         }
-        for rows in [0, 1, 2 * s.tags as usize - 1, 2 * s.tags as usize, 2 * s.tags as usize + 1] {
+        for rows in [0, 1, s.row_words() - 1, s.row_words(), s.row_words() + 1] {
             for list in [0, s.blocks as usize - 1, s.blocks as usize, s.blocks as usize + 1] {
                 calls.push(Call::LookBack { second, rows, list });
             }

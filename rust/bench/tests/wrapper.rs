@@ -1,7 +1,7 @@
 //! The faces of the crate `register` (lent, read only, owned) against the independent implementation: histories through
 //! them leave the same words and tell the same answers, and a store is opened exactly if its head passes its tests.
 mod common;
-use bench::{Answer, Calls, Independent, NONE, OPEN};
+use bench::{Answer, Calls, Independent, NONE, OPEN, ROW};
 use common::damage::{Map, one_word};
 use common::history::{History, TEMPERS, Temper};
 use common::{Call, Outcome, Rng, settings};
@@ -81,7 +81,7 @@ impl Three {
 
 /// A look-back's rows, reading list, pages and counts are those of the answer and its words.
 fn same<W: AsRef<[u32]>>(answer: Answer, row_words: &[u32], list: &[u32], told: &LookBack<W>) {
-    let rows = row_words.chunks(2).map(|row| Row { tag: row[0], reading: row[1] as i32 }).take(answer.rows as usize);
+    let rows = row_words.chunks(ROW).map(|row| Row { tag: row[0], reading: row[1] as i32 }).take(answer.rows as usize);
     assert!(told.rows().eq(rows.clone()));
     assert!(told.rows().rev().eq(rows.collect::<Vec<_>>().into_iter().rev()));
     assert_eq!(told.rows().len(), answer.rows as usize);

@@ -1,5 +1,6 @@
 //! What a look-back answers.
 use crate::OPEN;
+use crate::settings::ROW_WORDS;
 use core::iter::FusedIterator;
 use core::slice;
 
@@ -61,7 +62,7 @@ impl<W> LookBack<W> {
     pub(crate) fn new(rows: W, list: W, answer: [u32; 6], cut: impl Fn(W, usize) -> W) -> LookBack<W> {
         let [row_count, page_count, block_count, pages @ ..] = answer;
         let counts = Counts { rows: row_count, pages: page_count, blocks: block_count };
-        let (rows, list) = (cut(rows, 2 * row_count as usize), cut(list, block_count as usize));
+        let (rows, list) = (cut(rows, ROW_WORDS * row_count as usize), cut(list, block_count as usize));
         LookBack { rows, list, counts, pages }
     }
 
@@ -95,10 +96,10 @@ impl<W: AsRef<[u32]>> LookBack<W> {
 #[derive(Clone, Debug)]
 #[must_use = "iterators are lazy and do nothing unless consumed"]
 pub struct Rows<'l> {
-    pairs: slice::Iter<'l, [u32; 2]>,
+    pairs: slice::Iter<'l, [u32; ROW_WORDS]>,
 }
 
-fn row([tag, reading]: [u32; 2]) -> Row {
+fn row([tag, reading]: [u32; ROW_WORDS]) -> Row {
     Row { tag, reading: reading.cast_signed() }
 }
 

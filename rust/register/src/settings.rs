@@ -1,6 +1,11 @@
 //! The settings of a register, and the lengths that follow from them.
 use crate::Refusal;
 
+/// Words of a block's head; of a record: tag, reading, from, to; and of a row: tag, reading.
+const BLOCK_HEAD_WORDS: usize = 8;
+const RECORD_WORDS: usize = 4;
+pub(crate) const ROW_WORDS: usize = 2;
+
 /// What a start fixes: b, q, B and D of document 01, within their limits.
 ///
 /// ```
@@ -104,13 +109,14 @@ impl Settings {
     /// Words of a store: head, index, directory, blocks. At most 1,089,824, so that nothing overflows.
     #[must_use]
     pub const fn words(&self) -> usize {
-        Self::FIXED_WORDS + self.tags as usize + self.blocks as usize * (8 + 4 * self.block as usize)
+        let block_words = BLOCK_HEAD_WORDS + RECORD_WORDS * self.block as usize;
+        Self::FIXED_WORDS + self.tags as usize + self.blocks as usize * block_words
     }
 
-    /// Words that a look-back's row buffer must have: two for each tag.
+    /// Words that a look-back's row buffer must have: a row for each tag.
     #[must_use]
     pub const fn row_words(&self) -> usize {
-        2 * self.tags as usize
+        ROW_WORDS * self.tags as usize
     }
 
     /// Words that a look-back's list of blocks must have: one for each block.

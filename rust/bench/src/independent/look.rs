@@ -1,6 +1,7 @@
 //! The look-back: the index gives the block opened last by t, the path goes up from it, and visits go left and down.
 use super::head::Head;
 use super::parts::{BLOCK_HEAD, Blocks, CHILD, CLOSED, LEFT, LEVEL_WORDS, RECORD, UP};
+use crate::settings::ROW;
 use crate::{Answer, NONE, OPEN, Refusal};
 
 pub fn look_back(store: &[u32], second: u32, rows: &mut [u32], list: &mut [u32]) -> Result<Answer, Refusal> {
@@ -11,11 +12,11 @@ pub fn look_back(store: &[u32], second: u32, rows: &mut [u32], list: &mut [u32])
     if second > head.clock {
         return Err(Refusal::LATE);
     }
-    let (tags, blocks) = (head.settings.tags as usize, head.settings.blocks as usize);
-    if rows.len() < 2 * tags || list.len() < blocks {
+    let (row_words, blocks) = (head.settings.row_words(), head.settings.blocks as usize);
+    if rows.len() < row_words || list.len() < blocks {
         return Err(Refusal::SHORT_BUFFER);
     }
-    let answer = answer(&head, store, second, &mut rows[..2 * tags], &mut list[..blocks]);
+    let answer = answer(&head, store, second, &mut rows[..row_words], &mut list[..blocks]);
     answer.ok_or_else(|| {
         rows.fill(0);
         list.fill(0);
@@ -28,7 +29,7 @@ fn answer(head: &Head, store: &[u32], t: u32, rows: &mut [u32], list: &mut [u32]
     let (index, rest) = store[16..].split_at(LEVEL_WORDS.iter().sum());
     let found = find(index, head.opened as usize, t)?;
     let blocks = Blocks { words: &rest[head.settings.tags as usize..], block_words: head.settings.block_words() };
-    let (row_room, list_room) = (rows.len() / 2, list.len());
+    let (row_room, list_room) = (rows.len() / ROW, list.len());
     let mut walk = Walk { blocks, t, rows: rows.as_chunks_mut().0.iter_mut(), list: list.iter_mut() };
     walk.path(found.block, head.child)?;
     Some(Answer {

@@ -1,11 +1,11 @@
 //! The parts of a lent store, and the words of a block.
 use super::head::HEAD_WORDS;
 use crate::Settings;
+pub use crate::settings::{BLOCK_HEAD, RECORD};
 
 pub const LEVEL_WORDS: [usize; 3] = [4096, 256, 16];
 
 /// Numbers of a block's words.
-pub const BLOCK_HEAD: usize = 8;
 pub const OPENED: usize = 0;
 pub const CLOSED: usize = 1;
 pub const UP: usize = 2;
@@ -15,8 +15,7 @@ pub const RIGHT: usize = 5;
 pub const BITS_LOW: usize = 6;
 pub const BITS_HIGH: usize = 7;
 
-/// A record: tag, reading, from, to.
-pub const RECORD: usize = 4;
+/// Numbers of a record's words.
 pub const TAG: usize = 0;
 pub const READING: usize = 1;
 pub const TO: usize = 3;

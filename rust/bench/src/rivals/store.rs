@@ -1,7 +1,7 @@
 //! The register, by either implementation.
 use super::{Contender, Row};
 use crate::input::{self, Change};
-use bench::{Answer, Calls, Settings};
+use bench::{Answer, Calls, ROW, Settings};
 use std::marker::PhantomData;
 
 pub struct Store<R> {
@@ -21,7 +21,7 @@ impl<R: Calls> Store<R> {
             name,
             settings,
             words: vec![0; settings.words()],
-            row_words: vec![0; 2 * settings.tags as usize],
+            row_words: vec![0; settings.row_words()],
             list: vec![0; settings.blocks as usize],
             rows: Vec::new(),
             answer: None,
@@ -63,7 +63,7 @@ impl<R: Calls> Contender for Store<R> {
         }
         let last = self.answer.map_or(0, |answer| answer.rows as usize);
         self.rows.clear();
-        self.rows.extend(self.row_words.chunks(2).take(last).map(|row| (row[0], row[1] as i32)));
+        self.rows.extend(self.row_words.chunks(ROW).take(last).map(|row| (row[0], row[1] as i32)));
         rows
     }
 

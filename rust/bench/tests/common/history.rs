@@ -117,7 +117,7 @@ impl History {
     }
 
     pub fn look_back_at(&self, second: u32) -> Call {
-        Call::LookBack { second, rows: 2 * self.settings.tags as usize, list: self.settings.blocks as usize }
+        Call::LookBack { second, rows: self.settings.row_words(), list: self.settings.blocks as usize }
     }
 
     /// Puts one argument out of place.
