@@ -13,7 +13,7 @@ use Rattle.base.specs.Slots.{slots-count}
 use Rattle.layout.specs.declared.head.Head.{Head}
 use Rattle.layout.specs.declared.standing.Standing.{Standing}
 use Rattle.layout.specs.declared.address.Address.the-variants.{Dir, Bits, Slot}
-use Rattle.layout.specs.Sizes.{OPEN}
+use Rattle.layout.specs.Sizes.{OPEN, recordLen}
 use Rattle.layout.specs.Fields.{tagWord, fromWord, toWord}
 use Rattle.layout.specs.Head.{headOf}
 use Rattle.layout.specs.Standing.{stands, blockBits}
@@ -57,7 +57,7 @@ module _ {ws : List ℕ} {a : Account} (i : Honest ws a) where
   block-is = ap (λ (h : Head). h .settings .block) (head-is i)
 
   -- the word of a slot
-  slot-is : (n k j : ℕ) → 1 ≤ n → n ≤ i .cursor .opened → k < a .settings .block → j < 4 → wordsRead ws (Slot n k j) ≡ i .memory (Slot n k j)
+  slot-is : (n k j : ℕ) → 1 ≤ n → n ≤ i .cursor .opened → k < a .settings .block → j < recordLen → wordsRead ws (Slot n k j) ≡ i .memory (Slot n k j)
   slot-is n k j l h q w = word-is i (Slot n k j) (block-numbered i n l h, q, w)
 
   bit-iff : (n k : ℕ) → 1 ≤ n → n ≤ i .cursor .opened → k < a .settings .block → (stands (blockBits (wordsRead ws) n) k ≡ true) ↔ (wordsRead ws (Slot n k toWord) ≡ OPEN)
