@@ -1,10 +1,10 @@
 // The register's calls, each on the first words of the store: as many as are asked for, or all that there are. What a look-back leaves goes
 // into the memory.
-use crate::asked::*;
-use crate::memory::*;
-use crate::settings::Settings;
-use crate::words::MARK;
-use crate::words::sum;
+use model::asked::*;
+use model::memory::*;
+use model::settings::Settings;
+use model::words::MARK;
+use model::words::sum;
 ghost use Prim.Native.Nat.{_≤_};
 
 fn least(x: usize, y: usize) -> usize
@@ -64,9 +64,6 @@ fn look_back_on(
         answer,
     )
 }
-
-// Words of a buffer beyond the lent ones that are compared too.
-pub const SPARE: u32 = 8;
 
 // A buffer to lend from: longer than any that a look-back of ours gets.
 type Buffer = [u32; 640];

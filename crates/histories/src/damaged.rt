@@ -1,19 +1,19 @@
 // Calls on damaged stores. Whatever the words are, a call answers 0 or a refusal that it can meet, and a refused one leaves what
 // document 01 says.
-use crate::asked::*;
-use crate::book;
 use crate::calls;
-use crate::draw;
 use crate::history;
-use crate::log;
-use crate::looked;
-use crate::memory::*;
-use crate::random::*;
-use crate::refusal;
-use crate::settings;
-use crate::settings::Settings;
 use crate::tally;
-use crate::words::*;
+use model::asked::*;
+use model::book;
+use model::draw;
+use model::log;
+use model::looked;
+use model::memory::*;
+use model::random::*;
+use model::refusal;
+use model::settings;
+use model::settings::Settings;
+use model::words::*;
 
 // Words that a call on a damaged store had to leave.
 const WROTE: u32 = 21;

@@ -1,18 +1,18 @@
 // One history: a store of marks, a start, and calls drawn at random, each made on the register and compared with the log and the book.
-use crate::agree;
-use crate::asked::*;
-use crate::book;
 use crate::calls;
-use crate::draw;
-use crate::due;
-use crate::log;
-use crate::looked;
-use crate::memory::*;
-use crate::random::*;
-use crate::settings;
-use crate::settings::Settings;
 use crate::tally;
-use crate::words::*;
+use model::agree;
+use model::asked::*;
+use model::book;
+use model::draw;
+use model::due;
+use model::log;
+use model::looked;
+use model::memory::*;
+use model::random::*;
+use model::settings;
+use model::settings::Settings;
+use model::words::*;
 
 // What a refused call changed, and what an accepted one changed beyond the layout or left in it.
 const REFUSED_WROTE: u32 = 2;

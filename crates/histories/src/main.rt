@@ -1,24 +1,15 @@
-// Random histories through the register, against a plain log and a block book that are written here from document 01 alone; and calls on
-// damaged stores. It prints totals and `mismatches 0`; a line `mismatch HISTORY CALL WHAT` says where something did not agree. A history's
-// number is the seed of all that is drawn in it.
-mod agree;
-mod asked;
-mod book;
+// Random histories through the register, against the plain log and the block book of the crate `model`; and calls on damaged stores. It
+// prints totals and `mismatches 0`; a line `mismatch HISTORY CALL WHAT` says where something did not agree. A history's number is the seed
+// of all that is drawn in it.
 mod calls;
 mod damaged;
-mod draw;
-mod due;
 mod history;
-mod log;
-mod looked;
-mod memory;
-mod random;
-mod refusal;
-mod settings;
 mod tally;
-mod words;
 
-use memory::*;
+use model::memory::*;
+use model::random;
+use model::settings;
+use model::words;
 
 // Histories of 200 calls, and long ones, in which the index gets its third level.
 const HISTORIES: u32 = 5000;

@@ -1,6 +1,6 @@
 // The totals, and what is printed.
-use crate::memory::*;
-use crate::words::*;
+use model::memory::*;
+use model::words::*;
 
 // In the order in which they are printed:
 const HISTORIES: u32 = TALLY;

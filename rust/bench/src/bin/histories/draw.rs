@@ -1,4 +1,4 @@
-//! Random arguments, mostly sensible, sometimes such as a refusal is for: the draws of crates/histories/src/draw.rt,
+//! Random arguments, mostly sensible, sometimes such as a refusal is for: the draws of crates/model/src/draw.rt,
 //! in the same order, since each takes its numbers from one generator.
 use crate::account::{Account, Kind};
 use crate::random::Random;

@@ -1,7 +1,7 @@
 //! What the Rattle program `histories` must print, found without it and without the proved register.
 //!
 //! The calls are test data, so they are drawn here as there: `random`, `draw`, `settings` and `damage` are ports of the
-//! files of crates/histories/src, number for number. Every answer and every word is the independent implementation's
+//! files of crates/model/src and crates/histories/src, number for number. Every answer and every word is the independent implementation's
 //! (rust/bench/src/independent, written from document 01): the proved register is not called, and with
 //! `--no-default-features`, as tools/expected-histories builds this, it is not linked. What is drawn depends on the
 //! answers before it (the clock, the tags that stand, the words left), so the two programs stay together only while

@@ -1,4 +1,4 @@
-//! The draws' own numbers: the generator of crates/histories/src/random.rt, number for number.
+//! The draws' own numbers: the generator of crates/model/src/random.rt, number for number.
 
 /// Xorshift on 64 bits.
 pub struct Random(u64);

@@ -1,4 +1,4 @@
-//! The settings that the histories run with (crates/histories/src/settings.rt and draw.rt have the same), and where
+//! The settings that the histories run with (crates/model/src/settings.rt and draw.rt have the same), and where
 //! document 01 lays a block's words.
 use bench::Settings;
 
