@@ -87,7 +87,7 @@ pub(crate) fn place(store: &mut [u32], h: Head, second: u32, tag: u32, reading: 
         (now (store .entry)) r (now (store .exit)) ⌝ }
 {
     let with_room = make_room(store, h, second);
-    records::put_record(store, with_room, second, tag, payload::told(reading))
+    records::put_record(store, with_room, second, tag, payload::told(second, reading))
 }
 
 // The record of slot k of block x moves to where any record goes.

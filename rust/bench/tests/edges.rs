@@ -169,7 +169,7 @@ fn deep_visits() {
             }
         }
         pair.reset(&store);
-        pair.call(Call::LookBack { second: 0, rows: 32, list: 4096 }, &mut rng).unwrap();
+        pair.call(Call::LookBack { second: 0, rows: s.row_words(), list: 4096 }, &mut rng).unwrap();
         assert_eq!(pair.told.answer[2], 4096);
     }
     println!("edges, deep visits: {}", pair.totals);

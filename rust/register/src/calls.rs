@@ -12,7 +12,7 @@
 //! ```
 //! use register::{Refusal, calls};
 //!
-//! let mut store = [0; 4592];
+//! let mut store = [0; 4624];
 //! assert_eq!(calls::start(&mut store, 4, 2, 8, 16), 0);
 //! assert_eq!(calls::clear(&mut store, 1, 3), 10);
 //! assert_eq!(Refusal::result_of(10), Err(Refusal::NotStanding));
@@ -104,9 +104,9 @@ pub fn apply(store: &mut [u32], entry: Entry) -> u32 {
     }
 }
 
-/// What stood at a second. `rows` gets tag and reading of each row, `list` the numbers of the blocks listed, `answer` the
-/// numbers of rows, pages read and blocks listed and the page passed on each level, [`OPEN`](crate::OPEN) if none.
-/// Words after these keep their contents, and a refusal leaves `answer`.
+/// What stood at a second. `rows` gets tag, reading and since of each row ([`Row`](crate::Row)), `list` the numbers of
+/// the blocks listed, `answer` the numbers of rows, pages read and blocks listed and the page passed on each level,
+/// [`OPEN`](crate::OPEN) if none. Words after these keep their contents, and a refusal leaves `answer`.
 /// Refusals 2 to 5, 7, 11, 12.
 #[inline]
 #[must_use = "0 is accepted, any other number a refusal"]

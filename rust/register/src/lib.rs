@@ -1,10 +1,10 @@
 //! The look-back register of a rope tension monitor, proved, for programs in Rust.
 //!
 //! A register keeps *conditions* (a tag with a reading: a tension outside its band, a sheave off, a gauge in doubt) as
-//! they are set, cleared and given new readings. A look-back tells what stood at any past second, and lists at
-//! most twice as many blocks as were open then. The code behind this crate, `libregister.a`, is written in Rattle,
-//! and a checker has proved that each call does what its definition says on whatever words it is lent. This wrapper
-//! is not proved: it passes slices to that code and gives its answers Rust's types.
+//! they are set, cleared and given new readings. A look-back tells what stood at any past second and since when, and
+//! lists at most twice as many blocks as were open then. The code behind this crate, `libregister.a`, is written in
+//! Rattle, and a checker has proved that each call does what its definition says on whatever words it is lent. This
+//! wrapper is not proved: it passes slices to that code and gives its answers Rust's types.
 //!
 //! Everything lives in 32-bit words that the caller lends ([`Register`]; [`Reader`] if they are lent to be read only)
 //! or, with the feature `alloc`, in a register's own (`OwnedRegister`). Document 01's printed case:
@@ -25,7 +25,7 @@
 //!
 //! let (mut rows, mut list) = (vec![0; settings.row_words()], vec![0; settings.list_words()]);
 //! let told = register.look_back(7, &mut rows, &mut list)?;
-//! let stood = [Row { tag: 5, reading: 0 }, Row { tag: 1, reading: 25 }, Row { tag: 4, reading: 140 }];
+//! let stood = [(5, 0, 5), (1, 25, 1), (4, 140, 4)].map(|(tag, reading, since)| Row { tag, reading, since });
 //! assert!(told.rows().eq(stood));
 //! assert_eq!(told.blocks(), [2, 1]);
 //! assert_eq!(register.look_back(9, &mut rows, &mut list), Err(Refusal::Late));
@@ -36,6 +36,14 @@
 //!
 //! A store can be rebuilt from a journal of the calls that made it: [`Entry`], [`Register::rebuild`]. The repository's
 //! `examples/` has a program that so loses no change that it has acknowledged, wherever it is stopped.
+//!
+//! # Versions
+//!
+//! A store belongs to one version of the library. Before 0.3.0 a record had no word for since: a store of such a
+//! version is shorter, and its records lie elsewhere, but its head has the same mark. In its own length it is refused
+//! with [`Refusal::ShortStore`]; with words to spare it may be taken for one of this version, and is misread then. It
+//! is carried over by its journal, which is the same in all versions: replay that on a store of this version's length,
+//! and leave out the entries that were refused then (a start that found its store too short might now be accepted).
 //!
 //! # The archive
 //!

@@ -26,7 +26,7 @@ pub enum Refusal {
     /// or take an older copy of it.
     Head = 3,
     /// The store is shorter than the layout of its settings: lend [`Settings::words`](crate::Settings::words) words,
-    /// or all of a store that was cut short.
+    /// or all of a store that was cut short. One of an older [version](crate#versions) is shorter, too.
     ShortStore = 4,
     /// The time is [`OPEN`](crate::OPEN), which is no second: pass a smaller one.
     TimeOpen = 5,

@@ -39,8 +39,8 @@ impl<'a> Register<'a> {
         Ok(Register { store })
     }
 
-    /// Opens a store that a start, and perhaps changes after it, left; nothing is written. [`Reader::open`] says how
-    /// the head is tested.
+    /// Opens a store that a start, and perhaps changes after it, left, by this [version](crate#versions); nothing is
+    /// written. [`Reader::open`] says how the head is tested.
     ///
     /// # Errors
     ///
