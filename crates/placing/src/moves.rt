@@ -72,10 +72,14 @@ fn make_room(store: &mut [u32], h: Head, second: u32) -> Head
     ensures { λ r. ⌜ Moved h (makeRoom (h .settings) (h .cursor) second) (now (store .entry)) r (now (store .exit)) ⌝ }
 {
     if h.cursor.opened == 0 {
-        return roll(store, h, second);
+        let rolled = roll(store, h, second);
+        let cursor = rolled.cursor;
+        return h.onward(cursor);
     }
     if h.cursor.fill == h.settings.block {
-        return roll(store, h, second);
+        let rolled = roll(store, h, second);
+        let cursor = rolled.cursor;
+        return h.onward(cursor);
     }
     h
 }
@@ -87,7 +91,13 @@ pub(crate) fn place(store: &mut [u32], h: Head, second: u32, tag: u32, reading: 
         (now (store .entry)) r (now (store .exit)) ⌝ }
 {
     let with_room = make_room(store, h, second);
-    records::put_record(store, with_room, second, tag, payload::told(second, reading))
+    records::put_record(
+        store,
+        with_room,
+        second,
+        tag,
+        payload::told(second, reading),
+    )
 }
 
 // The record of slot k of block x moves to where any record goes.
