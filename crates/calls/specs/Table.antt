@@ -11,7 +11,7 @@ use Rattle.layout.specs.Fields.{closedWord}
 use Rattle.layout.specs.Settings.{settingsOf}
 use Rattle.layout.specs.Head.{headOf, placed}
 use Rattle.layout.specs.Payload.{newPayload}
-use Rattle.calls.specs.Calls.{Call, Start, Set, Clear, Ask, LookBack, Row, Answer, Shown, Refused, accepted}
+use Rattle.calls.specs.Calls.{Call, Start, Set, Clear, Update, Ask, LookBack, Row, Answer, Shown, Refused, accepted}
 use Rattle.calls.specs.Step.{step, wordsRead}
 use Rattle.calls.specs.History.{wordsAfter, trace, opening, account}
 
@@ -87,6 +87,13 @@ pub record Table : Type 0 where
   -- P12 this layout: 4,624 words pass, 4,623 give 4
   pub p12 : (ws : List ℕ) → length ws ≡ 4624 → accepted (step ws (Start settings) .answer) ≡ true
   pub p12-not : (ws : List ℕ) → length ws ≡ 4623 → step ws (Start settings) .answer ≡ Refused 4
+  -- since is the second of the last set or new reading: tag 1 is set at 1 and has a new reading at 3
+  pub since-before : seenAt (wordsAfter fresh (Set 1 1 25 ∷ Update 3 1 30 ∷ [])) 2 ≡ view (row 1 25 1 ∷ []) (1 ∷ []) onePage 1
+  pub since-new-reading : seenAt (wordsAfter fresh (Set 1 1 25 ∷ Update 3 1 30 ∷ [])) 3 ≡ view (row 1 30 3 ∷ []) (1 ∷ []) onePage 1
+  -- "however often the record was copied": after the printed case tag 4 is copied again, at 13, when block 2 closes
+  pub since-copied-twice :
+      seenAt (wordsAfter after8 (Set 9 6 1 ∷ Set 9 7 2 ∷ Set 10 8 3 ∷ Clear 11 5 ∷ Clear 12 6 ∷ Clear 13 7 ∷ [])) 13
+      ≡ view (row 8 3 10 ∷ row 4 140 4 ∷ []) (3 ∷ 2 ∷ []) onePage 1
   -- slips to shut out, beyond those that P1 to P12 notice: the acceptor is not judged on a clear, though none stands in it
   pub slip-acceptor : wordsRead (wordsAfter fresh (Set 1 1 25 ∷ Clear 2 1 ∷ [])) (Field 1 closedWord) ≡ OPEN
   -- of the blocks opened in one second the last starts the path

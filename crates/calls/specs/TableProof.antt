@@ -61,6 +61,9 @@ table = record {
   p11-not = λ reading. set-refused after8 8 16 reading 7 refl;
   p12 = λ ws e. rw e;
   p12-not = λ ws e. rw e;
+  since-before = refl;
+  since-new-reading = refl;
+  since-copied-twice = refl;
   slip-acceptor = refl;
   slip-first = refl;
 }
