@@ -60,6 +60,9 @@ pub record Table : Type 0 where
   pub p1 : seenAt after8 7 ≡ view (row 5 0 5 ∷ row 1 25 1 ∷ row 4 140 4 ∷ []) (2 ∷ 1 ∷ []) onePage 1
   -- P2 at 8: rows 5, 4; list 2, 1. Tag 4 stands since 4, though its record was copied at 8
   pub p2 : seenAt after8 8 ≡ view (row 5 0 5 ∷ row 4 140 4 ∷ []) (2 ∷ 1 ∷ []) onePage 1
+  -- and its words, in buffers lent full of 77: three a row, tag, reading, since; words after the rows and after the list keep their contents
+  pub p2-lent : step after8 (Ask (LookBack 8 (replicate 48 77) (replicate 8 77))) .lent
+      ≡ (5 ∷ 0 ∷ 5 ∷ 4 ∷ 140 ∷ 4 ∷ replicate 42 77) ∷ (2 ∷ 1 ∷ replicate 6 77) ∷ []
   -- P3 at 3: list 1
   pub p3 : seenAt after8 3 ≡ view (row 1 25 1 ∷ row 2 4294967271 2 ∷ row 3 5 3 ∷ []) (1 ∷ []) onePage 1
   pub printed-9 : seenAt after8 9 ≡ Refused 7

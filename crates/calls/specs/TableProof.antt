@@ -44,6 +44,7 @@ unfolding fresh after7 after8 bitAt withBit withoutBit bitsFrom slotsOf blockLen
 table = record {
   p1 = refl;
   p2 = refl;
+  p2-lent = refl;
   p3 = refl;
   printed-9 = refl;
   p4 = refl;

@@ -27,9 +27,6 @@ pub record WordEdges : Type 0 where
   -- which closes (so that block 4's up becomes block 3's), and then tag 3
   pub opened : blockPart settings (step littered (Set 12 3 70) .store) 4
       ≡ 12 ∷ OPEN ∷ 2 ∷ 0 ∷ 0 ∷ 0 ∷ 3 ∷ 0 ∷ 2 ∷ 23 ∷ 12 ∷ OPEN ∷ 9 ∷ 3 ∷ 70 ∷ 12 ∷ OPEN ∷ 12 ∷ replicate 15 0
-  -- a look-back's rows are three words each, tag, reading, since; words after the rows and after the list keep their contents
-  pub rows-at-8 : step after8 (asked 8 48 8) .lent
-      ≡ (5 ∷ 0 ∷ 5 ∷ 4 ∷ 140 ∷ 4 ∷ replicate 42 77) ∷ (2 ∷ 1 ∷ replicate 6 77) ∷ []
   -- a damaged since is shown as it is: of tag 4, and no other word
   pub damaged-since : step (after8 ▹ Slot 2 1 sinceWord ≔ OPEN) (asked 8 48 8) .answer
       ≡ table.view (table.row 5 0 5 ∷ table.row 4 140 OPEN ∷ []) (2 ∷ 1 ∷ []) table.onePage 1
