@@ -87,7 +87,7 @@ from-then s t tag asked x new old f =
     (λ e. refl)
 
 module _ (log : Log) (s tag : ℕ) where
-  -- A set logs its reading, where nothing was told of the tag.
+  -- A set logs its reading and its second, where nothing was told of the tag.
   pub tellings-set : (reading t asked : ℕ) → (s ≤ t → tellings log t tag ≡ none)
       → tellings (log ++ (Set s tag reading ∷ [])) t asked ≡ logged s tag (some (newPayload s reading)) (tellings log) t asked
   tellings-set reading t asked absent =
