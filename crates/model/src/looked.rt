@@ -102,7 +102,7 @@ fn rows_due(memory: &Memory, tag: u32, t: u32) -> u32 {
     if made == 0 {
         return 0;
     }
-    let count = least(get(memory, ROW_COUNT), 213);
+    let count = least(get(memory, ROW_COUNT), 640 / ROW_WORDS);
     let reading = at(memory, log::change(made), log::READING);
     let since = at(memory, log::change(made), log::SECOND);
     let once = rows_like(memory, count, tag, reading, since) == 1;

@@ -16,8 +16,4 @@ rows-like-spec =
     (search needs)
     (search needs)
     (search needs)
-    (search needs)
-    (search needs)
-    (search needs)
-    (search needs)
     (search needs))

@@ -16,8 +16,4 @@ times-listed-spec =
     (search needs)
     (search needs)
     (search needs)
-    (search needs)
-    (search needs)
-    (search needs)
-    (search needs)
     (search needs))
