@@ -36,13 +36,17 @@ after7 = wordsAfter fresh upTo7
 unfoldable pub after8 : List ℕ
 after8 = wordsAfter after7 (Clear 8 1 ∷ [])
 
+-- and on: tags 6 and 7 fill block 2, tag 8 opens block 3; with the clear at 13 only tag 4 stands in block 2, which closes and copies it to block 3
+unfoldable pub after13 : List ℕ
+after13 = wordsAfter after8 (Set 9 6 1 ∷ Set 9 7 2 ∷ Set 10 8 3 ∷ Clear 11 5 ∷ Clear 12 6 ∷ Clear 13 7 ∷ [])
+
 -- what a look-back with buffers of 48 and 8 words answers
 abbrev pub seenAt : List ℕ → ℕ → Answer
 seenAt ws t = step ws (Ask (LookBack t (replicate 48 0) (replicate 8 0))) .answer
 
 -- tag, reading, since
 abbrev pub row : ℕ → ℕ → ℕ → Row
-row tag reading since = record { tag = tag; payload = newPayload since reading }
+row tag reading since = record { tag = tag; payload = newPayload reading since }
 
 -- rows, list, the page passed on each level, pages read
 abbrev pub view : List Row → List ℕ → List ℕ → ℕ → Answer
@@ -55,14 +59,23 @@ onePage = 0 ∷ OPEN ∷ OPEN ∷ []
 abbrev pub noPage : List ℕ
 noPage = OPEN ∷ OPEN ∷ OPEN ∷ []
 
+-- "the second of its last set or new reading, carried along by every copy"
+pub record Since : Type 0 where
+  -- tag 1 is set at 1 and has a new reading at 3, another one or the same
+  pub before : seenAt (wordsAfter fresh (Set 1 1 25 ∷ Update 3 1 30 ∷ [])) 2 ≡ view (row 1 25 1 ∷ []) (1 ∷ []) onePage 1
+  pub new-reading : seenAt (wordsAfter fresh (Set 1 1 25 ∷ Update 3 1 30 ∷ [])) 3 ≡ view (row 1 30 3 ∷ []) (1 ∷ []) onePage 1
+  pub same-reading : seenAt (wordsAfter fresh (Set 1 1 25 ∷ Update 3 1 25 ∷ [])) 3 ≡ view (row 1 25 3 ∷ []) (1 ∷ []) onePage 1
+  -- "however often the record was copied": at 13 tag 4 has been copied twice
+  pub copied-twice : seenAt after13 13 ≡ view (row 8 3 10 ∷ row 4 140 4 ∷ []) (3 ∷ 2 ∷ []) onePage 1
+  -- the lent words of that look-back, full of 77 before: three a row, tag, reading, since; words after the rows and after the list keep their contents
+  pub row-words : step after13 (Ask (LookBack 13 (replicate 48 77) (replicate 8 77))) .lent
+      ≡ (8 ∷ 3 ∷ 10 ∷ 4 ∷ 140 ∷ 4 ∷ replicate 42 77) ∷ (3 ∷ 2 ∷ replicate 6 77) ∷ []
+
 pub record Table : Type 0 where
   -- the printed case: rows in order with their readings and since when, blocks listed, refusal 7; and P1: at 7, list 2, 1
   pub p1 : seenAt after8 7 ≡ view (row 5 0 5 ∷ row 1 25 1 ∷ row 4 140 4 ∷ []) (2 ∷ 1 ∷ []) onePage 1
   -- P2 at 8: rows 5, 4; list 2, 1. Tag 4 stands since 4, though its record was copied at 8
   pub p2 : seenAt after8 8 ≡ view (row 5 0 5 ∷ row 4 140 4 ∷ []) (2 ∷ 1 ∷ []) onePage 1
-  -- and its words, in buffers lent full of 77: three a row, tag, reading, since; words after the rows and after the list keep their contents
-  pub p2-lent : step after8 (Ask (LookBack 8 (replicate 48 77) (replicate 8 77))) .lent
-      ≡ (5 ∷ 0 ∷ 5 ∷ 4 ∷ 140 ∷ 4 ∷ replicate 42 77) ∷ (2 ∷ 1 ∷ replicate 6 77) ∷ []
   -- P3 at 3: list 1
   pub p3 : seenAt after8 3 ≡ view (row 1 25 1 ∷ row 2 4294967271 2 ∷ row 3 5 3 ∷ []) (1 ∷ []) onePage 1
   pub printed-9 : seenAt after8 9 ≡ Refused 7
@@ -90,13 +103,8 @@ pub record Table : Type 0 where
   -- P12 this layout: 4,624 words pass, 4,623 give 4
   pub p12 : (ws : List ℕ) → length ws ≡ 4624 → accepted (step ws (Start settings) .answer) ≡ true
   pub p12-not : (ws : List ℕ) → length ws ≡ 4623 → step ws (Start settings) .answer ≡ Refused 4
-  -- since is the second of the last set or new reading: tag 1 is set at 1 and has a new reading at 3
-  pub since-before : seenAt (wordsAfter fresh (Set 1 1 25 ∷ Update 3 1 30 ∷ [])) 2 ≡ view (row 1 25 1 ∷ []) (1 ∷ []) onePage 1
-  pub since-new-reading : seenAt (wordsAfter fresh (Set 1 1 25 ∷ Update 3 1 30 ∷ [])) 3 ≡ view (row 1 30 3 ∷ []) (1 ∷ []) onePage 1
-  -- "however often the record was copied": after the printed case tag 4 is copied again, at 13, when block 2 closes
-  pub since-copied-twice :
-      seenAt (wordsAfter after8 (Set 9 6 1 ∷ Set 9 7 2 ∷ Set 10 8 3 ∷ Clear 11 5 ∷ Clear 12 6 ∷ Clear 13 7 ∷ [])) 13
-      ≡ view (row 8 3 10 ∷ row 4 140 4 ∷ []) (3 ∷ 2 ∷ []) onePage 1
+  -- since, beyond P1 to P3
+  pub since : Since
   -- slips to shut out, beyond those that P1 to P12 notice: the acceptor is not judged on a clear, though none stands in it
   pub slip-acceptor : wordsRead (wordsAfter fresh (Set 1 1 25 ∷ Clear 2 1 ∷ [])) (Field 1 closedWord) ≡ OPEN
   -- of the blocks opened in one second the last starts the path

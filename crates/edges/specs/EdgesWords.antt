@@ -8,7 +8,7 @@ use Rattle.layout.specs.Sizes.{OPEN, headLen}
 use Rattle.layout.specs.Fields.{leftWord, childWord, rightWord, readingWord, sinceWord}
 use Rattle.layout.specs.Parts.{blockPart}
 use Rattle.calls.specs.Calls.{Start, Set}
-use Rattle.calls.specs.Step.{step}
+use Rattle.calls.specs.Step.{step, wordsRead}
 use Rattle.calls.specs.Table.{after8}
 use Rattle.calls.specs.Table as table
 use Rattle.edges.specs.EdgesStores.{_▹_, _≔_, settings, brim}
@@ -16,7 +16,9 @@ use Rattle.edges.specs.EdgesLookBack.{asked}
 
 -- block 4 of a store whose block 3 is full, with words that no history left in it
 abbrev pub littered : List ℕ
-littered = brim ▹ Field 4 leftWord ≔ 1 ▹ Field 4 childWord ≔ 2 ▹ Field 4 rightWord ≔ 3 ▹ Bits 4 0 ≔ 16 ▹ Bits 4 1 ≔ 5 ▹ Slot 4 4 readingWord ≔ 6 ▹ Slot 4 4 sinceWord ≔ 7
+littered =
+    brim ▹ Field 4 leftWord ≔ 1 ▹ Field 4 childWord ≔ 2 ▹ Field 4 rightWord ≔ 3 ▹ Bits 4 0 ≔ 16 ▹ Bits 4 1 ≔ 5
+    ▹ Slot 4 4 readingWord ≔ 6 ▹ Slot 4 4 sinceWord ≔ 7
 
 pub record WordEdges : Type 0 where
   -- "Start fills the layout with zeros, then the head (clock 0); words beyond it are untouched."
@@ -30,3 +32,5 @@ pub record WordEdges : Type 0 where
   -- a damaged since is shown as it is: of tag 4, and no other word
   pub damaged-since : step (after8 ▹ Slot 2 1 sinceWord ≔ OPEN) (asked 8 48 8) .answer
       ≡ table.view (table.row 5 0 5 ∷ table.row 4 140 OPEN ∷ []) (2 ∷ 1 ∷ []) table.onePage 1
+  -- and is carried along by a copy: that of tag 2, from block 3 to block 4, as above
+  pub damaged-since-copied : wordsRead (step (brim ▹ Slot 3 3 sinceWord ≔ OPEN) (Set 12 3 70) .store) (Slot 4 0 sinceWord) ≡ OPEN

@@ -23,4 +23,4 @@ use Rattle.edges.specs.EdgesWords.{WordEdges}
 
 pub word-edges : WordEdges
 unfolding three bitAt withBit withoutBit bitsFrom slotsOf blockLen layoutLen each inLimits headOf headWords withHead cleared badHead placed storeCursor stands raised lowered readWord writeWord wipeBlock over enterTime openBlock unlink endRecord standing putRecord moveRecord closeFull judgeFull roll makeRoom place replace close judge clearTag finish setProgram clearProgram badPlace badBlock unsoundSet unsoundClear blocksOut start set clear blockPart levelPart pagePart blockWord slotWord lastUpTo entries topLevel lookUp descend search rowOf rowsOf neighbour visit path look reader lookAt lookBack printedFresh after7 after8
-word-edges = record { start-beyond = refl; head-after-8 = refl; opened = refl; damaged-since = refl }
+word-edges = record { start-beyond = refl; head-after-8 = refl; opened = refl; damaged-since = refl; damaged-since-copied = refl }

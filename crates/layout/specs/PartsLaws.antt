@@ -114,4 +114,4 @@ module _ (s : Settings) (ws : List ℕ) where
 
 -- ---- records with the same words tell the same
 pub payload-same : {v w : ℕ → ℕ} → ((i : ℕ) → i < recordLen → v i ≡ w i) → payloadOf v ≡ payloadOf w
-payload-same h = ap₂ (λ (reading since : ℕ). newPayload since reading) (h _ (omega arith)) (h _ (omega arith))
+payload-same h = ap₂ newPayload (h _ (omega arith)) (h _ (omega arith))

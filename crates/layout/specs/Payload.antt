@@ -10,7 +10,7 @@ use Rattle.layout.specs.Parts.{slotWord}
 
 -- what a set or a new reading at a second tells: its reading, as the word that is stored, and the second since which it stands
 abbrev pub newPayload : ℕ → ℕ → Payload
-newPayload now reading = record { reading = reading; since = now }
+newPayload reading now = record { reading = reading; since = now }
 
 -- as words of a row, behind its tag
 abbrev pub payloadWords : Payload → List ℕ

@@ -20,8 +20,8 @@ pub struct Payload {
 }
 
 // What a set or a new reading at `second` tells.
-pub fn told(second: u32, reading: u32) -> Payload
-    ensures { λ r. ⌜ r ≡ newPayload second reading ⌝ }
+pub fn told(reading: u32, second: u32) -> Payload
+    ensures { λ r. ⌜ r ≡ newPayload reading second ⌝ }
 {
     Payload {
         reading,

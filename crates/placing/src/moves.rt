@@ -72,32 +72,25 @@ fn make_room(store: &mut [u32], h: Head, second: u32) -> Head
     ensures { λ r. ⌜ Moved h (makeRoom (h .settings) (h .cursor) second) (now (store .entry)) r (now (store .exit)) ⌝ }
 {
     if h.cursor.opened == 0 {
-        let rolled = roll(store, h, second);
-        let cursor = rolled.cursor;
-        return h.onward(cursor);
+        return roll(store, h, second);
     }
     if h.cursor.fill == h.settings.block {
-        let rolled = roll(store, h, second);
-        let cursor = rolled.cursor;
-        return h.onward(cursor);
+        return roll(store, h, second);
     }
     h
 }
 
-// A record is placed, where there is room or after room is made.
+// A record is placed, where there is room or after room is made. Of the head then only the cursor is taken: the settings are those of h, and a
+// longer way to them would no longer be compiled into the callers (docs/DECISIONS.md 38).
 pub(crate) fn place(store: &mut [u32], h: Head, second: u32, tag: u32, reading: u32) -> Head
     requires { ⌜ Able (h .settings) (place (h .settings) (h .cursor) second tag reading) (now store) ⌝ }
     ensures { λ r. ⌜ Moved h (place (h .settings) (h .cursor) second tag reading)
         (now (store .entry)) r (now (store .exit)) ⌝ }
 {
     let with_room = make_room(store, h, second);
-    records::put_record(
-        store,
-        with_room,
-        second,
-        tag,
-        payload::told(second, reading),
-    )
+    let cursor = with_room.cursor;
+    let head = h.onward(cursor);
+    records::put_record(store, head, second, tag, payload::told(reading, second))
 }
 
 // The record of slot k of block x moves to where any record goes.

@@ -101,7 +101,7 @@ module _ (s : Settings) where
 
   only-place : (c : Cursor) (now tag reading : ℕ) → Only headless (place s c now tag reading)
   unfolding place
-  only-place c now tag reading = (only-room c now, λ d. only-put d now tag (newPayload now reading))
+  only-place c now tag reading = (only-room c now, λ d. only-put d now tag (newPayload reading now))
 
   only-judge : (c : Cursor) (x now : ℕ) → Only headless (judge s c x now)
   unfolding judge close replace
