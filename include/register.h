@@ -43,9 +43,14 @@
  *
  * VERSIONS. A store belongs to one version of the library. Before 0.3.0 a record had no word for since: a store of such
  * a version is shorter, and its records lie elsewhere, but its head has the same mark. In its own length it is refused
- * with REGISTER_SHORT_STORE; with words to spare it may be taken for one of this version, and is misread then. It is
- * carried over by its journal, which is the same in all versions: replay that on a store of this version's length, and
- * leave out the entries that were refused then (a start that found its store too short might now be accepted).
+ * with REGISTER_SHORT_STORE; with words to spare it may be taken for one of this version, and is misread then. An older
+ * library takes a store of this version for its own: it does not refuse it, but misreads it, and a change spoils it.
+ * A store is carried over by its whole journal, from the first start on, which is the same in all versions (a copy of
+ * the store with the rest of the journal will not do). Leave out the entries that were refused then: a start that found
+ * its store too short might now be accepted. Lend the words that the largest start left needs now, and replay: all must
+ * be accepted. README.md, "Versions", has more, also for those who have no whole journal.
+ * A row had two words before 0.3.0 and has three now. Compile programs anew, and where one finds its rows itself
+ * (rows[2 * i]), use REGISTER_TAG_OF, REGISTER_READING_OF and REGISTER_SINCE_OF.
  *
  * WHAT IS ASSUMED OF A CALLER, as Rust's borrows give it:
  *  - each pointer is aligned and not null, also where its number of words is 0, and has that many words behind it;
@@ -104,7 +109,9 @@ extern "C" {
 #define REGISTER_LIST_WORDS(blocks) ((size_t)(blocks))
 
 /* Tag, reading and since of row i, counted from 0, in a row buffer after a look-back. Since is the second of the
- * condition's last set or new reading, however often the register has copied its record. */
+ * condition's last set or new reading, however often the register has copied its record. A monitor that sends the same
+ * reading again each minute by register_update makes since the last minute: if since is to tell for how long, send a
+ * new reading only when it changed. */
 #define REGISTER_TAG_OF(rows, i) ((rows)[REGISTER_WORDS_PER_ROW * (size_t)(i)])
 #define REGISTER_READING_OF(rows, i) ((int32_t)(rows)[REGISTER_WORDS_PER_ROW * (size_t)(i) + 1])
 #define REGISTER_SINCE_OF(rows, i) ((rows)[REGISTER_WORDS_PER_ROW * (size_t)(i) + 2])
@@ -157,7 +164,8 @@ enum register_result {
      * comes after calls alone. Take an older copy, or rebuild the store from a journal. */
     REGISTER_UNSOUND = 12,
 
-    /* The change would open a block, and N = B. Keep this store for look-backs, and start another, or a larger one. */
+    /* The change would open a block, and N = B. Keep this store for look-backs, and start another, or a larger one:
+     * README.md, "When blocks run out". */
     REGISTER_OUT_OF_BLOCKS = 13
 };
 
@@ -171,16 +179,16 @@ const char *register_refusal_text(uint32_t result);
 uint32_t register_start(uint32_t *store, size_t words, uint32_t block, uint32_t useful, uint32_t blocks, uint32_t tags);
 
 /* Sets a tag, 0 to D - 1, with a reading in daN; a negative reading v is passed as 4294967296 + v, C's (uint32_t)v.
- * The second becomes the clock, as in each accepted change; several changes may share one.
- * Refusals 2 to 6, 8, 9, 12, 13. */
+ * The second becomes the clock, as in each accepted change; several changes may share one. It is also the condition's
+ * since. Refusals 2 to 6, 8, 9, 12, 13. */
 uint32_t register_set(uint32_t *store, size_t words, uint32_t second, uint32_t tag, uint32_t reading);
 
 /* Clears a tag that stands; one that is set and cleared within a second never shows.
  * Refusals 2 to 6, 8, 10, 12, 13 (a clear may close a block, whose records are then placed again). */
 uint32_t register_clear(uint32_t *store, size_t words, uint32_t second, uint32_t tag);
 
-/* Gives a standing tag a new reading: a clear and a set at the same second, also if the reading is equal.
- * Refusals 2 to 6, 8, 10, 12, 13. */
+/* Gives a standing tag a new reading: a clear and a set at the same second. Its since becomes this second, also if the
+ * reading is equal. Refusals 2 to 6, 8, 10, 12, 13. */
 uint32_t register_update(uint32_t *store, size_t words, uint32_t second, uint32_t tag, uint32_t reading);
 
 /* Moves the clock. Refusals 2 to 6. */
@@ -222,7 +230,7 @@ enum register_entry {
 
 /* Makes the calls of a journal, one after another, on a store of any contents; a refused one changes nothing. answer[0]
  * gets the number of entries read, which is less than the journal has if an unknown kind ended it, answer[1] the number
- * of those that were accepted. Both are 64 bits wide, since a journal may have more entries than 32 bits count. There
+ * of those that were accepted. Both are 64 bits wide: a journal may have more entries than 32 bits count. There
  * is no refusal: a journal of refused calls is read to its end, and leaves the store as it was.
  * examples/mapped.c shows how a journal is kept so that no acknowledged change is lost. */
 void register_replay(uint32_t *store, size_t words, const uint32_t *journal, size_t journal_words, uint64_t answer[2]);

@@ -247,4 +247,7 @@ fn printed_case() {
     let answer = Proved::look_back(&store, 8, &mut rows, &mut list).unwrap();
     assert_eq!((answer.rows, &rows[..6]), (2, &[5, 0, 5, 4, 140, 4][..])); // tag 4 was copied at 8, and stands since 4
     assert_eq!(Proved::look_back(&store, 9, &mut rows, &mut list), Err(Refusal::LATE));
+    Proved::update(&mut store, 9, 4, -7).unwrap();
+    let answer = Proved::look_back(&store, 9, &mut rows, &mut list).unwrap();
+    assert_eq!((answer.rows, &rows[3..6]), (2, &[4, OPEN - 6, 9][..])); // tag, reading and since, no two of them alike
 }

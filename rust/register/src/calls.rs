@@ -56,7 +56,7 @@ pub fn start(store: &mut [u32], block: u32, useful: u32, blocks: u32, tags: u32)
     unsafe { export::register_start(store.as_mut_ptr(), store.len(), block, useful, blocks, tags) }
 }
 
-/// Sets a tag with a reading in daN.
+/// Sets a tag with a reading in daN. Its since is this second.
 /// Refusals 2 to 6, 8, 9, 12, 13.
 #[inline]
 #[must_use = "0 is accepted, any other number a refusal"]
@@ -74,7 +74,8 @@ pub fn clear(store: &mut [u32], second: u32, tag: u32) -> u32 {
     unsafe { export::register_clear(store.as_mut_ptr(), store.len(), second, tag) }
 }
 
-/// Gives a standing tag a new reading: a clear and a set at the same second, also if the reading is equal.
+/// Gives a standing tag a new reading: a clear and a set at the same second. Its since becomes this second, also if the
+/// reading is equal.
 /// Refusals 2 to 6, 8, 10, 12, 13.
 #[inline]
 #[must_use = "0 is accepted, any other number a refusal"]

@@ -7,7 +7,8 @@
 //! wrapper is not proved: it passes slices to that code and gives its answers Rust's types.
 //!
 //! Everything lives in 32-bit words that the caller lends ([`Register`]; [`Reader`] if they are lent to be read only)
-//! or, with the feature `alloc`, in a register's own (`OwnedRegister`). Document 01's printed case:
+//! or, with the feature `alloc`, in a register's own (`OwnedRegister`). Document 01's printed case, and a new reading
+//! after it:
 //!
 //! ```
 //! use register::{Refusal, Register, Row, Settings};
@@ -29,6 +30,10 @@
 //! assert!(told.rows().eq(stood));
 //! assert_eq!(told.blocks(), [2, 1]);
 //! assert_eq!(register.look_back(9, &mut rows, &mut list), Err(Refusal::Late));
+//!
+//! register.update(9, 4, 150)?;
+//! let told = register.look_back(9, &mut rows, &mut list)?;
+//! assert!(told.rows().eq([Row { tag: 5, reading: 0, since: 5 }, Row { tag: 4, reading: 150, since: 9 }]));
 //! # Ok::<(), Refusal>(())
 //! ```
 //!
@@ -41,9 +46,17 @@
 //!
 //! A store belongs to one version of the library. Before 0.3.0 a record had no word for since: a store of such a
 //! version is shorter, and its records lie elsewhere, but its head has the same mark. In its own length it is refused
-//! with [`Refusal::ShortStore`]; with words to spare it may be taken for one of this version, and is misread then. It
-//! is carried over by its journal, which is the same in all versions: replay that on a store of this version's length,
-//! and leave out the entries that were refused then (a start that found its store too short might now be accepted).
+//! with [`Refusal::ShortStore`]; with words to spare it may be taken for one of this version, and is misread then.
+//! An older library takes a store of this version for its own: it does not refuse it, but misreads it, and a change
+//! spoils it.
+//!
+//! A store is carried over by its whole journal, from the first start on, which is the same in all versions (a copy of
+//! the store with the rest of the journal will not do). Leave out the entries that were refused then: a start that
+//! found its store too short might now be accepted. Lend the words that the largest start left needs now, and
+//! [rebuild](Register::rebuild): both numbers of the [`Tally`] must be that of the entries left, else it did not work.
+//! The repository's README.md, "Versions", has more, also for those who have no whole journal.
+//!
+//! A [`Row`] has a third word, `since`, from 0.3.0 on; so has a row in the words that [`calls::look_back`] fills.
 //!
 //! # The archive
 //!

@@ -11,7 +11,8 @@ pub struct Row {
     pub tag: u32,
     /// Its reading then, in daN.
     pub reading: i32,
-    /// The second of its last set or new reading, however often the register has copied its record since.
+    /// The second of its last set or new reading, however often the register has copied its record. An equal reading
+    /// counts too: if this is to tell for how long, send a new reading only when it changed.
     pub since: u32,
 }
 

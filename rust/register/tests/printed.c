@@ -63,9 +63,17 @@ static int turned_away(void) {
     return 0;
 }
 
+/* A row whose tag, reading and since are no two alike. */
+static int told_apart(void) {
+    CHECK(look_back(10) == 0 && answer[REGISTER_ROWS] == 3 && row(2, 15, 7, 9));
+    CHECK(rows[6] == 15 && rows[7] == 7 && rows[8] == 9);
+    return 0;
+}
+
 int main(void) {
     int line = change();
     if (line == 0) line = look();
     if (line == 0) line = turned_away();
+    if (line == 0) line = told_apart();
     return line;
 }
