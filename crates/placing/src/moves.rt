@@ -66,31 +66,34 @@ fn roll(store: &mut [u32], h: Head, second: u32) -> Head
     judge_full(store, opened, last, second)
 }
 
-// Room for a record: a block opens if the acceptor is full, or N is 0.
+// Room for a record: a block opens if the acceptor is full, or N is 0. Of the head that `roll` hands back only the cursor is taken, for the settings
+// stay; with the whole head placing a record would no longer be compiled into its callers (docs/DECISIONS.md 38).
 fn make_room(store: &mut [u32], h: Head, second: u32) -> Head
     requires { ⌜ Able (h .settings) (makeRoom (h .settings) (h .cursor) second) (now store) ⌝ }
     ensures { λ r. ⌜ Moved h (makeRoom (h .settings) (h .cursor) second) (now (store .entry)) r (now (store .exit)) ⌝ }
 {
     if h.cursor.opened == 0 {
-        return roll(store, h, second);
+        let rolled = roll(store, h, second);
+        let cursor = rolled.cursor;
+        return h.onward(cursor);
     }
     if h.cursor.fill == h.settings.block {
-        return roll(store, h, second);
+        let rolled = roll(store, h, second);
+        let cursor = rolled.cursor;
+        return h.onward(cursor);
     }
     h
 }
 
-// A record is placed, where there is room or after room is made. Of the head then only the cursor is taken: the settings are those of h, and a
-// longer way to them would no longer be compiled into the callers (docs/DECISIONS.md 38).
+// A record is placed, where there is room or after room is made.
 pub(crate) fn place(store: &mut [u32], h: Head, second: u32, tag: u32, reading: u32) -> Head
     requires { ⌜ Able (h .settings) (place (h .settings) (h .cursor) second tag reading) (now store) ⌝ }
     ensures { λ r. ⌜ Moved h (place (h .settings) (h .cursor) second tag reading)
         (now (store .entry)) r (now (store .exit)) ⌝ }
 {
     let with_room = make_room(store, h, second);
-    let cursor = with_room.cursor;
-    let head = h.onward(cursor);
-    records::put_record(store, head, second, tag, payload::told(reading, second))
+    let told = payload::told(reading, second);
+    records::put_record(store, with_room, second, tag, told)
 }
 
 // The record of slot k of block x moves to where any record goes.

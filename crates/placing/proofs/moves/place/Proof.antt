@@ -14,19 +14,14 @@ make-room-requires c κs = able-first (c .before .before .pre)
 put-record-requires : tie.Need-put-record-requires
 unfolding place
 put-record-requires c κs =
-    let b = c .before .before in
-    let a = b .before .before .before .before in
-    rw (b .onward .ensures, c .told .ensures) (able-next (a .before .before .before .pre) (a .make-room .ensures .ran))
+    let m = c .before .before .before .before .make-room .ensures in
+    rw (m .settings, c .before .told .ensures) (able-next (c .before .before .before .before .before .before .before .pre) (m .ran))
 
 returns : tie.Need-returns
 unfolding place
 returns c =
-    let d = c .before .before in
-    let b = d .before .before .before in
-    let a = b .before .before .before .before in
-    onto (a .make-room .ensures) (rw (b .onward .ensures, d .before .told .ensures) at (d .put-record .ensures))
+    let m = c .before .before .before .before .before .before .before .make-room .ensures in
+    onto m (rw (m .settings, c .before .before .before .before .told .ensures) at (c .before .before .put-record .ensures))
 
 pub place-spec : {M : Type 1} → statement M
-place-spec =
-    tie.close (tie.spec make-room-requires (search needs) (search needs) put-record-requires
-    (λ c. ran-length (returns c .ran)) returns)
+place-spec = tie.close (tie.spec make-room-requires (search needs) put-record-requires (λ c. ran-length (returns c .ran)) returns)
