@@ -44,7 +44,7 @@
  * VERSIONS. A store belongs to one version of the library. Before 0.3.0 a record had no word for since: a store of such
  * a version is shorter, and its records lie elsewhere, but its head has the same mark. In its own length it is refused
  * with REGISTER_SHORT_STORE; with words to spare it may be taken for one of this version, and is misread then. An older
- * library takes a store of this version for its own: it does not refuse it, but misreads it, and a change spoils it.
+ * library takes a store of this version for its own: no refusal need tell, it misreads it, and a change spoils it.
  * A store is carried over by its whole journal, from the first start on, which is the same in all versions (a copy of
  * the store with the rest of the journal will not do). Leave out the entries that were refused then: a start that found
  * its store too short might now be accepted. Lend the words that the largest start left needs now, and replay: all must

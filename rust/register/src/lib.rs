@@ -47,7 +47,7 @@
 //! A store belongs to one version of the library. Before 0.3.0 a record had no word for since: a store of such a
 //! version is shorter, and its records lie elsewhere, but its head has the same mark. In its own length it is refused
 //! with [`Refusal::ShortStore`]; with words to spare it may be taken for one of this version, and is misread then.
-//! An older library takes a store of this version for its own: it does not refuse it, but misreads it, and a change
+//! An older library takes a store of this version for its own: no refusal need tell, it misreads it, and a change
 //! spoils it.
 //!
 //! A store is carried over by its whole journal, from the first start on, which is the same in all versions (a copy of
