@@ -10,7 +10,6 @@ use Rattle.layout.specs.Sizes.{OPEN}
 use Rattle.layout.specs.Fields.{closedWord}
 use Rattle.layout.specs.Settings.{settingsOf}
 use Rattle.layout.specs.Head.{headOf, placed}
-use Rattle.layout.specs.Payload.{newPayload}
 use Rattle.calls.specs.Calls.{Call, Start, Set, Clear, Update, Ask, LookBack, Row, Answer, Shown, Refused, accepted}
 use Rattle.calls.specs.Step.{step, wordsRead}
 use Rattle.calls.specs.History.{wordsAfter, trace, opening, account}
@@ -46,7 +45,7 @@ seenAt ws t = step ws (Ask (LookBack t (replicate 48 0) (replicate 8 0))) .answe
 
 -- tag, reading, since
 abbrev pub row : ℕ → ℕ → ℕ → Row
-row tag reading since = record { tag = tag; payload = newPayload reading since }
+row tag reading since = record { tag = tag; payload = record { reading = reading; since = since } }
 
 -- rows, list, the page passed on each level, pages read
 abbrev pub view : List Row → List ℕ → List ℕ → ℕ → Answer
