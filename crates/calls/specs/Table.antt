@@ -70,6 +70,13 @@ pub record Since : Type 0 where
   pub row-words : step after13 (Ask (LookBack 13 (replicate 48 77) (replicate 8 77))) .lent
       ≡ (8 ∷ 3 ∷ 10 ∷ 4 ∷ 140 ∷ 4 ∷ replicate 42 77) ∷ (3 ∷ 2 ∷ replicate 6 77) ∷ []
 
+pub record Slips : Type 0 where
+  -- the acceptor is not judged on a clear, though none stands in it
+  pub acceptor : wordsRead (wordsAfter fresh (Set 1 1 25 ∷ Clear 2 1 ∷ [])) (Field 1 closedWord) ≡ OPEN
+  -- of the blocks opened in one second the last starts the path
+  pub first : seenAt (wordsAfter fresh (Set 1 1 25 ∷ Set 1 2 5 ∷ Set 1 3 5 ∷ Set 1 4 5 ∷ Set 1 5 0 ∷ [])) 1
+      ≡ view (row 5 0 1 ∷ row 1 25 1 ∷ row 2 5 1 ∷ row 3 5 1 ∷ row 4 5 1 ∷ []) (2 ∷ 1 ∷ []) onePage 1
+
 pub record Table : Type 0 where
   -- the printed case: rows in order with their readings and since when, blocks listed, refusal 7; and P1: at 7, list 2, 1
   pub p1 : seenAt after8 7 ≡ view (row 5 0 5 ∷ row 1 25 1 ∷ row 4 140 4 ∷ []) (2 ∷ 1 ∷ []) onePage 1
@@ -104,8 +111,5 @@ pub record Table : Type 0 where
   pub p12-not : (ws : List ℕ) → length ws ≡ 4623 → step ws (Start settings) .answer ≡ Refused 4
   -- since, beyond P1 to P3
   pub since : Since
-  -- slips to shut out, beyond those that P1 to P12 notice: the acceptor is not judged on a clear, though none stands in it
-  pub slip-acceptor : wordsRead (wordsAfter fresh (Set 1 1 25 ∷ Clear 2 1 ∷ [])) (Field 1 closedWord) ≡ OPEN
-  -- of the blocks opened in one second the last starts the path
-  pub slip-first : seenAt (wordsAfter fresh (Set 1 1 25 ∷ Set 1 2 5 ∷ Set 1 3 5 ∷ Set 1 4 5 ∷ Set 1 5 0 ∷ [])) 1
-      ≡ view (row 5 0 1 ∷ row 1 25 1 ∷ row 2 5 1 ∷ row 3 5 1 ∷ row 4 5 1 ∷ []) (2 ∷ 1 ∷ []) onePage 1
+  -- slips to shut out, beyond those that P1 to P12 notice
+  pub slips : Slips
