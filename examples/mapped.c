@@ -139,7 +139,8 @@ static uint32_t look(const uint32_t *store, uint32_t second) {
     if (refusal != 0) return refusal;
     printf("stood at %lu: %lu\n", (unsigned long)second, (unsigned long)told[REGISTER_ROWS]);
     for (uint32_t i = 0; i < told[REGISTER_ROWS]; i++)
-        printf("tag %lu: %ld daN\n", (unsigned long)REGISTER_TAG_OF(rows, i), (long)REGISTER_READING_OF(rows, i));
+        printf("tag %lu: %ld daN since %lu\n", (unsigned long)REGISTER_TAG_OF(rows, i),
+               (long)REGISTER_READING_OF(rows, i), (unsigned long)REGISTER_SINCE_OF(rows, i));
     return 0;
 }
 

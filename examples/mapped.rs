@@ -169,7 +169,7 @@ fn parse(line: &str) -> Option<Command> {
 fn look(register: &Register, second: u32) -> Result<String, Refusal> {
     let (mut rows, mut list) = ([0; SETTINGS.row_words()], [0; SETTINGS.list_words()]);
     let told = register.look_back(second, &mut rows, &mut list)?;
-    let lines = told.rows().map(|row| format!("tag {}: {} daN\n", row.tag, row.reading));
+    let lines = told.rows().map(|row| format!("tag {}: {} daN since {}\n", row.tag, row.reading, row.since));
     Ok(format!("stood at {second}: {}\n", told.rows().len()) + &lines.collect::<String>())
 }
 

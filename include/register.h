@@ -1,12 +1,12 @@
 /* register.h - the look-back register of a rope tension monitor, proved: the calls of libregister.a, and their manual.
  *
  * A register keeps conditions (a tag with a reading in daN: a tension outside its band, a sheave off, a gauge in
- * doubt) as they are set, cleared and given new readings. A look-back tells what stood at any past second; it lists
- * at most twice as many blocks as were open then. The code is written in Rattle, and a checker has proved
- * that each call answers and writes what its definition says for every content of the lent words, honest or not.
+ * doubt) as they are set, cleared and given new readings. A look-back tells what stood at any past second and since
+ * when; it lists at most twice as many blocks as were open then. The code is written in Rattle, and a checker has
+ * proved that each call answers and writes what its definition says for every content of the lent words, honest or not.
  * Document 01 is the paper that it renders, docs/LAYOUT.md has the words of a store.
  *
- * AN EXAMPLE. It prints `tag 3: -25 daN`: what stood at second 11 of tag 3, set at 10 and cleared at 12.
+ * AN EXAMPLE. It prints `tag 3: -25 daN since 10`: what stood at second 11 of tag 3, set at 10 and cleared at 12.
  *
  *     #include <stdio.h>
  *     #include "register.h"
@@ -27,7 +27,8 @@
  *             return 1;
  *         }
  *         for (i = 0; i < answer[REGISTER_ROWS]; i++)
- *             printf("tag %u: %ld daN\n", (unsigned)REGISTER_TAG_OF(rows, i), (long)REGISTER_READING_OF(rows, i));
+ *             printf("tag %u: %ld daN since %lu\n", (unsigned)REGISTER_TAG_OF(rows, i),
+ *                    (long)REGISTER_READING_OF(rows, i), (unsigned long)REGISTER_SINCE_OF(rows, i));
  *         return 0;
  *     }
  *
@@ -39,6 +40,17 @@
  * THE STORE. A register lives in 32-bit words that the caller lends, from their first on; nothing is kept elsewhere and
  * nothing is allocated. So a store may be copied, saved word for word, mapped from a file, and used again by the next
  * call: there is no opening and no closing. Words beyond its layout are never touched.
+ *
+ * VERSIONS. A store belongs to one version of the library. Before 0.3.0 a record had no word for since: a store of such
+ * a version is shorter, and its records lie elsewhere, but its head has the same mark. In its own length it is refused
+ * with REGISTER_SHORT_STORE; with words to spare it may be taken for one of this version, and is misread then. An older
+ * library takes a store of this version for its own: no refusal need tell, it misreads it, and a change spoils it.
+ * A store is carried over by its whole journal, from the first start on, which is the same in all versions (a copy of
+ * the store with the rest of the journal will not do). Leave out the entries that were refused then: a start that found
+ * its store too short might now be accepted. Lend the words that the largest start left needs now, and replay: all must
+ * be accepted. README.md, "Versions", has more, also for those who have no whole journal.
+ * A row had two words before 0.3.0 and has three now. Compile programs anew, and where one finds its rows itself
+ * (rows[2 * i]), use REGISTER_TAG_OF, REGISTER_READING_OF and REGISTER_SINCE_OF.
  *
  * WHAT IS ASSUMED OF A CALLER, as Rust's borrows give it:
  *  - each pointer is aligned and not null, also where its number of words is 0, and has that many words behind it;
@@ -66,9 +78,9 @@ extern "C" {
 
 /* The version of this header. Before 1.0 a new minor version may rename or change things. */
 #define REGISTER_VERSION_MAJOR 0
-#define REGISTER_VERSION_MINOR 2
+#define REGISTER_VERSION_MINOR 3
 #define REGISTER_VERSION_PATCH 0
-#define REGISTER_VERSION "0.2.0"
+#define REGISTER_VERSION "0.3.0"
 
 /* ---- Settings and lengths ---------------------------------------------------------------------------------------- */
 
@@ -85,17 +97,24 @@ extern "C" {
 #define REGISTER_OPEN UINT32_C(4294967295)
 
 /* Words of a store with these settings (head, index, directory, blocks), for arrays; settings within their limits give
- * 1,089,824 at most. register_words tells the same, and tests the settings. */
+ * 1,351,968 at most. register_words tells the same, and tests the settings. */
 #define REGISTER_WORDS(block, blocks, tags) \
-    ((size_t)16 + 4096 + 256 + 16 + (size_t)(tags) + (size_t)(blocks) * (8 + 4 * (size_t)(block)))
+    ((size_t)16 + 4096 + 256 + 16 + (size_t)(tags) + (size_t)(blocks) * (8 + 5 * (size_t)(block)))
+
+/* Words of a row: tag, reading, since. */
+#define REGISTER_WORDS_PER_ROW 3
 
 /* Words that a look-back's row buffer must have, and its list. */
-#define REGISTER_ROW_WORDS(tags) (2 * (size_t)(tags))
+#define REGISTER_ROW_WORDS(tags) (REGISTER_WORDS_PER_ROW * (size_t)(tags))
 #define REGISTER_LIST_WORDS(blocks) ((size_t)(blocks))
 
-/* Tag and reading of row i, counted from 0, in a row buffer after a look-back. */
-#define REGISTER_TAG_OF(rows, i) ((rows)[2 * (size_t)(i)])
-#define REGISTER_READING_OF(rows, i) ((int32_t)(rows)[2 * (size_t)(i) + 1])
+/* Tag, reading and since of row i, counted from 0, in a row buffer after a look-back. Since is the second of the
+ * condition's last set or new reading, however often the register has copied its record. A monitor that sends the same
+ * reading again each minute by register_update makes since the last minute: if since is to tell for how long, send a
+ * new reading only when it changed. */
+#define REGISTER_TAG_OF(rows, i) ((rows)[REGISTER_WORDS_PER_ROW * (size_t)(i)])
+#define REGISTER_READING_OF(rows, i) ((int32_t)(rows)[REGISTER_WORDS_PER_ROW * (size_t)(i) + 1])
+#define REGISTER_SINCE_OF(rows, i) ((rows)[REGISTER_WORDS_PER_ROW * (size_t)(i) + 2])
 
 /* Words of a store with these settings; 0 where register_start would refuse the settings. */
 size_t register_words(uint32_t block, uint32_t useful, uint32_t blocks, uint32_t tags);
@@ -117,7 +136,7 @@ enum register_result {
      * Start it, or take an older copy. */
     REGISTER_HEAD = 3,
 
-    /* The store is shorter than its layout. Lend REGISTER_WORDS words. */
+    /* The store is shorter than its layout. Lend REGISTER_WORDS words; see VERSIONS if they were enough before. */
     REGISTER_SHORT_STORE = 4,
 
     /* The time is OPEN, which is no second. */
@@ -145,7 +164,8 @@ enum register_result {
      * comes after calls alone. Take an older copy, or rebuild the store from a journal. */
     REGISTER_UNSOUND = 12,
 
-    /* The change would open a block, and N = B. Keep this store for look-backs, and start another, or a larger one. */
+    /* The change would open a block, and N = B. Keep this store for look-backs, and start another, or a larger one:
+     * README.md, "When blocks run out". */
     REGISTER_OUT_OF_BLOCKS = 13
 };
 
@@ -159,16 +179,16 @@ const char *register_refusal_text(uint32_t result);
 uint32_t register_start(uint32_t *store, size_t words, uint32_t block, uint32_t useful, uint32_t blocks, uint32_t tags);
 
 /* Sets a tag, 0 to D - 1, with a reading in daN; a negative reading v is passed as 4294967296 + v, C's (uint32_t)v.
- * The second becomes the clock, as in each accepted change; several changes may share one.
- * Refusals 2 to 6, 8, 9, 12, 13. */
+ * The second becomes the clock, as in each accepted change; several changes may share one. It is also the condition's
+ * since. Refusals 2 to 6, 8, 9, 12, 13. */
 uint32_t register_set(uint32_t *store, size_t words, uint32_t second, uint32_t tag, uint32_t reading);
 
 /* Clears a tag that stands; one that is set and cleared within a second never shows.
  * Refusals 2 to 6, 8, 10, 12, 13 (a clear may close a block, whose records are then placed again). */
 uint32_t register_clear(uint32_t *store, size_t words, uint32_t second, uint32_t tag);
 
-/* Gives a standing tag a new reading: a clear and a set at the same second, also if the reading is equal.
- * Refusals 2 to 6, 8, 10, 12, 13. */
+/* Gives a standing tag a new reading: a clear and a set at the same second. Its since becomes this second, also if the
+ * reading is equal. Refusals 2 to 6, 8, 10, 12, 13. */
 uint32_t register_update(uint32_t *store, size_t words, uint32_t second, uint32_t tag, uint32_t reading);
 
 /* Moves the clock. Refusals 2 to 6. */
@@ -187,9 +207,9 @@ enum register_answer {
     REGISTER_ANSWER_WORDS = 6
 };
 
-/* What stood at a second up to the clock; at the clock, the state so far. rows gets tag and reading of each row, list
- * the numbers, from 1, of the blocks listed, answer the six words above; words after these keep their contents, and a
- * refusal leaves answer as it was. The store is only read. Refusals 2 to 5, 7, 11, 12. */
+/* What stood at a second up to the clock; at the clock, the state so far. rows gets tag, reading and since of each row,
+ * list the numbers, from 1, of the blocks listed, answer the six words above; words after these keep their contents,
+ * and a refusal leaves answer as it was. The store is only read. Refusals 2 to 5, 7, 11, 12. */
 uint32_t register_look_back(const uint32_t *store, size_t words, uint32_t second, uint32_t *rows, size_t rows_words,
                             uint32_t *list, size_t list_words, uint32_t answer[REGISTER_ANSWER_WORDS]);
 
@@ -210,7 +230,7 @@ enum register_entry {
 
 /* Makes the calls of a journal, one after another, on a store of any contents; a refused one changes nothing. answer[0]
  * gets the number of entries read, which is less than the journal has if an unknown kind ended it, answer[1] the number
- * of those that were accepted. Both are 64 bits wide, since a journal may have more entries than 32 bits count. There
+ * of those that were accepted. Both are 64 bits wide: a journal may have more entries than 32 bits count. There
  * is no refusal: a journal of refused calls is read to its end, and leaves the store as it was.
  * examples/mapped.c shows how a journal is kept so that no acknowledged change is lost. */
 void register_replay(uint32_t *store, size_t words, const uint32_t *journal, size_t journal_words, uint64_t answer[2]);

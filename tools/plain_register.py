@@ -1,5 +1,6 @@
 """A plain model of the register and its console, for the tools beside it. It follows docs/REGISTER.md with lists and
-objects in place of words; nothing here is proved. tools/check-docs holds it to every case of crates/worked/data."""
+objects in place of words; nothing here is proved. tools/check-docs holds it to every case of crates/worked/data, and
+what it tells of each second there, since with it, to the plain log."""
 import re
 
 OPEN = 4294967295
@@ -27,8 +28,13 @@ REFUSALS = {
 
 
 def layout_words(b, blocks, tags):
-    """Head, index, directory and blocks."""
-    return 16 + 4096 + 256 + 16 + tags + blocks * (8 + 4 * b)
+    """Head, index, directory and blocks; a record has five words: tag, reading, from, to, since."""
+    return 16 + 4096 + 256 + 16 + tags + blocks * (8 + 5 * b)
+
+
+def buffer_words(blocks, tags):
+    """What a look-back is lent: rows of three words, tag, reading, since, for each tag; and the list."""
+    return 3 * tags + blocks
 
 
 # ---- sizes, from the proved limits (README.md, "How much it holds")
@@ -48,10 +54,12 @@ def blocks_read(q, rows):
 
 
 class Record:
-    """A condition in a slot, from one second to another; `source` is the block and slot that a copy came from."""
+    """A condition in a slot, from one second to another. `since` is the second of its last set or new reading, which
+    a copy keeps; `source` is the block and slot that a copy came from."""
 
-    def __init__(self, tag, reading, second, source):
-        self.tag, self.reading, self.start, self.end, self.source = tag, reading, second, OPEN, source
+    def __init__(self, tag, reading, since, second, source):
+        self.tag, self.reading, self.since = tag, reading, since
+        self.start, self.end, self.source = second, OPEN, source
 
     def stands(self, second):
         return self.start <= second < self.end
@@ -94,10 +102,10 @@ class Register:
             if last > 0:
                 self.judge(last, now)
 
-    def put(self, now, tag, reading, source=None):
+    def put(self, now, tag, reading, since, source=None):
         self.make_room(now)
         block = self.blocks[-1]
-        block.records.append(Record(tag, reading, now, source))
+        block.records.append(Record(tag, reading, since, now, source))
         self.place[tag] = (self.opened(), len(block.records) - 1)
 
     def judge(self, n, now):
@@ -113,7 +121,7 @@ class Register:
         for k in slots:
             record = block.records[k]
             record.end = now
-            self.put(now, record.tag, record.reading, (n, k))
+            self.put(now, record.tag, record.reading, record.since, (n, k))
 
     def end(self, now, tag):
         n, k = self.place.pop(tag)
@@ -151,15 +159,15 @@ class Register:
         if sign in '-=':
             self.end(second, tag)
         if sign in '+=':
-            self.put(second, tag, reading)
+            self.put(second, tag, reading, second)
         self.clock = second
 
-    # ---- the look-back: rows (tag, reading) in order, and the blocks listed
+    # ---- the look-back: rows (tag, reading, since) in order, and the blocks listed
     def look_back(self, t):
         rows, listed = [], []
 
         def take(n):
-            rows.extend((r.tag, r.reading) for r in self.blocks[n].records if r.stands(t))
+            rows.extend((r.tag, r.reading, r.since) for r in self.blocks[n].records if r.stands(t))
 
         def visit(n):
             while n:
@@ -231,10 +239,21 @@ class Run:
             self.lines.append(f'{event.second},no,{event.refusal},0')
         elif event.sign == '?':
             event.rows, event.listed = register.look_back(event.second)
-            self.lines += [f'{event.second},row,{tag},{kn(reading)}' for tag, reading in event.rows]
+            self.lines += [f'{event.second},row,{tag},{kn(reading)}' for tag, reading, _ in event.rows]
             self.lines.append(f'{event.second},sum,{len(event.rows)},{len(event.listed)}')
         else:
             register.change(event.sign, event.second, event.tag, event.reading)
+
+    def log_at(self, t):
+        """What stood at t by the accepted changes alone, without any blocks: rows by tag."""
+        stood = {}
+        for event in self.events:
+            if event.refusal or event.second > t or event.sign in '.?':
+                continue
+            stood.pop(event.tag, None)
+            if event.sign in '+=':
+                stood[event.tag] = (event.tag, event.reading, event.second)
+        return sorted(stood.values())
 
 
 # ---- lines and fields

@@ -170,7 +170,7 @@ fn other_journals() {
             assert!(fs::read(folder.join("journal")).expect("a journal") == journal);
         }
     }
-    assert_eq!(Settings::new(8, 2, 512, 64).expect("sound settings").words(), 24_928);
+    assert_eq!(Settings::new(8, 2, 512, 64).expect("sound settings").words(), 29_024);
 }
 
 /// While one program has the files, another, of either kind, does not get them.

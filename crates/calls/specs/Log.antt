@@ -21,9 +21,9 @@ andRow tag payload rows = rows ++ (record { tag = tag; payload = payload } ∷ [
 
 -- a change tells of the seconds from its own on
 abbrev pub tells : ℕ → List Row → Call → List Row
-tells t rows (Set s tag reading) = cond (leb s t) (andRow tag (newPayload reading) rows) rows
+tells t rows (Set s tag reading) = cond (leb s t) (andRow tag (newPayload reading s) rows) rows
 tells t rows (Clear s tag) = cond (leb s t) (without tag rows) rows
-tells t rows (Update s tag reading) = cond (leb s t) (andRow tag (newPayload reading) (without tag rows)) rows
+tells t rows (Update s tag reading) = cond (leb s t) (andRow tag (newPayload reading s) (without tag rows)) rows
 tells t rows (Start s) = rows
 tells t rows (Advance s) = rows
 tells t rows (Ask q) = rows
@@ -38,9 +38,9 @@ stateAt log t = stateFrom t [] log
 
 -- ---- the state so far: what all changes of the log, whatever their seconds, leave standing
 abbrev pub makes : List Row → Call → List Row
-makes rows (Set s tag reading) = andRow tag (newPayload reading) rows
+makes rows (Set s tag reading) = andRow tag (newPayload reading s) rows
 makes rows (Clear s tag) = without tag rows
-makes rows (Update s tag reading) = andRow tag (newPayload reading) (without tag rows)
+makes rows (Update s tag reading) = andRow tag (newPayload reading s) (without tag rows)
 makes rows (Start s) = rows
 makes rows (Advance s) = rows
 makes rows (Ask q) = rows

@@ -118,7 +118,7 @@ module _ (s : Settings) where
   unfoldable pub place : Cursor → ℕ → ℕ → ℕ → Prog Cursor
   place c now tag reading = do
     d ← makeRoom c now
-    putRecord d now tag (newPayload reading)
+    putRecord d now tag (newPayload reading now)
 
   -- ---- a block other than the acceptor is judged: its copies go where any record goes
   unfoldable pub replace : ℕ → ℕ → ℕ → Cursor → Prog Cursor

@@ -26,7 +26,7 @@ use Rattle.calls.specs.Refusals.{refusal, setTests, badPlace, badBlock, 
 use Rattle.calls.specs.LookBack.{reader, lookAt, lookBack}
 use Rattle.calls.specs.Step.{start, set, clear, update, advance}
 use Rattle.calls.specs.Book.{writes}
-use Rattle.calls.specs.Table.{Table, fresh, after7, after8}
+use Rattle.calls.specs.Table.{Table, Since, Slips, fresh, after7, after8, after13}
 
 -- ---- a set is accepted, or refused, by its tests alone
 set-passes : (ws : List ℕ) (s tag reading : ℕ) → refusal (setTests ws (wordsRead ws) s tag) ≡ 0
@@ -38,6 +38,15 @@ set-refused : (ws : List ℕ) (s tag reading n : ℕ) → refusal (setTests ws (
     → step ws (Set s tag reading) .answer ≡ Refused (suc n)
 unfolding set
 set-refused ws s tag reading n e = rw (e, ne-eqb (suc n) 0 (omega arith))
+
+-- ---- the parts of the table are proved one by one, because a declaration may take only so many steps of the prover
+since : Since
+unfolding fresh after7 after8 after13 bitAt withBit withoutBit bitsFrom slotsOf blockLen layoutLen each inLimits headOf headWords withHead cleared badHead placed storeCursor stands raised lowered blockPart levelPart pagePart blockWord slotWord readWord writeWord wipeBlock over enterTime openBlock unlink endRecord standing putRecord moveRecord closeFull judgeFull roll makeRoom place replace close judge clearTag finish setProgram clearProgram updateProgram advanceProgram lastUpTo entries topLevel lookUp descend search rowOf rowsOf neighbour visit path look badPlace badBlock unsoundSet unsoundClear blocksOut start set clear update advance reader lookAt lookBack writes
+since = record { before = refl; new-reading = refl; same-reading = refl; copied-twice = refl; row-words = refl }
+
+slips : Slips
+unfolding fresh bitAt withBit withoutBit bitsFrom slotsOf blockLen layoutLen each inLimits headOf headWords withHead cleared badHead placed storeCursor stands raised lowered blockPart levelPart pagePart blockWord slotWord readWord writeWord wipeBlock over enterTime openBlock unlink endRecord standing putRecord moveRecord closeFull judgeFull roll makeRoom place replace close judge clearTag finish setProgram clearProgram updateProgram advanceProgram lastUpTo entries topLevel lookUp descend search rowOf rowsOf neighbour visit path look badPlace badBlock unsoundSet unsoundClear blocksOut start set clear update advance reader lookAt lookBack writes
+slips = record { acceptor = refl; first = refl }
 
 pub table : Table
 unfolding fresh after7 after8 bitAt withBit withoutBit bitsFrom slotsOf blockLen layoutLen each inLimits headOf headWords withHead cleared badHead placed storeCursor stands raised lowered blockPart levelPart pagePart blockWord slotWord readWord writeWord wipeBlock over enterTime openBlock unlink endRecord standing putRecord moveRecord closeFull judgeFull roll makeRoom place replace close judge clearTag finish setProgram clearProgram updateProgram advanceProgram lastUpTo entries topLevel lookUp descend search rowOf rowsOf neighbour visit path look badPlace badBlock unsoundSet unsoundClear blocksOut start set clear update advance reader lookAt lookBack writes
@@ -61,6 +70,6 @@ table = record {
   p11-not = λ reading. set-refused after8 8 16 reading 7 refl;
   p12 = λ ws e. rw e;
   p12-not = λ ws e. rw e;
-  slip-acceptor = refl;
-  slip-first = refl;
+  since = since;
+  slips = slips;
 }

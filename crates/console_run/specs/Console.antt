@@ -115,7 +115,7 @@ lineDoes stage tooLong words = only (badAt stage) words
 
 -- ---- what is printed
 
--- The i-th row, counted from 0: its tag and its reading stand in the row buffer.
+-- The i-th row, counted from 0: its tag and its reading stand in the row buffer. Since when it stands is not printed.
 abbrev pub rowLineAt : ℕ → List ℕ → ℕ → List ℕ
 rowLineAt time rows i = rowLine time (getD rows (rowLen * i) 0) (getD rows (rowLen * i + 1) 0)
 
@@ -155,7 +155,7 @@ consoleFrom stage words number (text ∷ more) =
     let d = lineDoes stage text words in
     saidBytes (d .turn .said) number (d .lent .rows) ++ consoleFrom (d .turn .next) (d .lent) (suc number) more
 
--- "The store has 16,000 words." The buffers hold what the largest settings ask for: 2 × 4,096 row words and 4,096 block numbers.
+-- "The store has 16,000 words." The buffers hold what the largest settings ask for: 4,096 rows and 4,096 block numbers.
 abbrev pub storeLen : ℕ
 storeLen = 16000
 

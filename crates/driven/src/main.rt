@@ -4,7 +4,7 @@ use changes::Change;
 use layout::settings::Settings;
 
 // The store of the printed settings: b = 4, q = 2, 8 blocks, 16 tags.
-const WORDS: usize = 4592;
+const WORDS: usize = 4624;
 
 type Store = [u32; WORDS];
 
@@ -42,44 +42,44 @@ const SCRIPT: [u8; 140] = *b"P8
 // the printed changes; P9, P10 and P11; the refusals that need some state; a new reading and a clock move; a directory word that names no
 // placed record, which is unsound, and a head with another mark; with one block the fifth set would open another.
 const STEPS: [Trial; 38] = [
-    Trial(START, 4592, 4, 8, 0),
-    Trial(START, 4592, 3, 8, 0),
-    Trial(START, 4592, 4, 8, 0),
-    Trial(START, 4591, 4, 8, 0),
-    Trial(ADVANCE, 4591, 1, 0, 0),
+    Trial(START, 4624, 4, 8, 0),
+    Trial(START, 4624, 3, 8, 0),
+    Trial(START, 4624, 4, 8, 0),
+    Trial(START, 4623, 4, 8, 0),
+    Trial(ADVANCE, 4623, 1, 0, 0),
     Trial(START, 15, 4, 8, 0),
     Trial(SET, 15, 1, 1, 1),
-    Trial(SET, 4592, 1, 1, 25),
-    Trial(SET, 4592, 2, 2, 4294967271),
-    Trial(SET, 4592, 3, 3, 5),
-    Trial(SET, 4592, 4, 4, 140),
-    Trial(SET, 4592, 5, 5, 0),
-    Trial(CLEAR, 4592, 6, 2, 0),
-    Trial(CLEAR, 4592, 7, 3, 0),
-    Trial(CLEAR, 4592, 8, 1, 0),
-    Trial(SET, 4592, 8, 6, 1),
-    Trial(SET, 4592, 7, 7, 1),
-    Trial(SET, 4592, 8, 15, 1),
-    Trial(SET, 4592, 8, 16, 1),
-    Trial(ADVANCE, 4592, layout::OPEN, 0, 0),
-    Trial(ADVANCE, 4592, 7, 0, 0),
-    Trial(SET, 4592, 9, 4, 1),
-    Trial(CLEAR, 4592, 9, 2, 0),
-    Trial(UPDATE, 4592, 9, 2, 1),
-    Trial(UPDATE, 4592, 9, 4, 4294967295),
-    Trial(ADVANCE, 4592, 12, 0, 0),
-    Trial(WRITE, 4592, 4389, 99, 0),
-    Trial(CLEAR, 4592, 13, 5, 0),
-    Trial(UPDATE, 4592, 13, 5, 1),
-    Trial(WRITE, 4592, 0, 7000, 0),
-    Trial(ADVANCE, 4592, 13, 0, 0),
-    Trial(START, 4592, 4, 1, 0),
-    Trial(SET, 4592, 1, 0, 10),
-    Trial(SET, 4592, 1, 1, 11),
-    Trial(SET, 4592, 1, 2, 12),
-    Trial(SET, 4592, 1, 3, 13),
-    Trial(SET, 4592, 1, 4, 14),
-    Trial(UPDATE, 4592, 1, 3, 7),
+    Trial(SET, 4624, 1, 1, 25),
+    Trial(SET, 4624, 2, 2, 4294967271),
+    Trial(SET, 4624, 3, 3, 5),
+    Trial(SET, 4624, 4, 4, 140),
+    Trial(SET, 4624, 5, 5, 0),
+    Trial(CLEAR, 4624, 6, 2, 0),
+    Trial(CLEAR, 4624, 7, 3, 0),
+    Trial(CLEAR, 4624, 8, 1, 0),
+    Trial(SET, 4624, 8, 6, 1),
+    Trial(SET, 4624, 7, 7, 1),
+    Trial(SET, 4624, 8, 15, 1),
+    Trial(SET, 4624, 8, 16, 1),
+    Trial(ADVANCE, 4624, layout::OPEN, 0, 0),
+    Trial(ADVANCE, 4624, 7, 0, 0),
+    Trial(SET, 4624, 9, 4, 1),
+    Trial(CLEAR, 4624, 9, 2, 0),
+    Trial(UPDATE, 4624, 9, 2, 1),
+    Trial(UPDATE, 4624, 9, 4, 4294967295),
+    Trial(ADVANCE, 4624, 12, 0, 0),
+    Trial(WRITE, 4624, 4389, 99, 0),
+    Trial(CLEAR, 4624, 13, 5, 0),
+    Trial(UPDATE, 4624, 13, 5, 1),
+    Trial(WRITE, 4624, 0, 7000, 0),
+    Trial(ADVANCE, 4624, 13, 0, 0),
+    Trial(START, 4624, 4, 1, 0),
+    Trial(SET, 4624, 1, 0, 10),
+    Trial(SET, 4624, 1, 1, 11),
+    Trial(SET, 4624, 1, 2, 12),
+    Trial(SET, 4624, 1, 3, 13),
+    Trial(SET, 4624, 1, 4, 14),
+    Trial(UPDATE, 4624, 1, 3, 7),
 ];
 
 fn number(x: u32) {
@@ -124,13 +124,13 @@ fn show(store: &Store) {
     words(store, b"head", 0, 16);
     words(store, b"directory", 4384, 4400);
     if 1 <= blocks {
-        words(store, b"block 1", 4400, 4424);
+        words(store, b"block 1", 4400, 4428);
     }
     if 2 <= blocks {
-        words(store, b"block 2", 4424, 4448);
+        words(store, b"block 2", 4428, 4456);
     }
     if 3 <= blocks {
-        words(store, b"block 3", 4448, 4472);
+        words(store, b"block 3", 4456, 4484);
     }
 }
 

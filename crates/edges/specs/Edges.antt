@@ -14,7 +14,7 @@ use Rattle.edges.specs.EdgesLookBack.{AskEdges, WalkEdges, PageEdges}
 
 pub record Edges : Type 0 where
   -- the store that the edges of a change set out from is one that a history leaves
-  pub three-left : wordsAfter (step (replicate 4586 9) (Start settings) .store) toThree ≡ three
+  pub three-left : wordsAfter (step (replicate 4621 9) (Start settings) .store) toThree ≡ three
   -- 1, 2 and 4 of a start
   pub start : StartEdges
   -- 2, 3 and 4 of every other call

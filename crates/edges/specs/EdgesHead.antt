@@ -24,21 +24,21 @@ pub record Fit (n : ℕ) (s : Settings) : Type 0 where
 pub record StartEdges : Type 0 where
   -- 1: "b 2 to 64"
   pub b-1 : (q blocks tags : ℕ) → Unfit (settingsOf 1 q blocks tags)
-  pub b-2 : Fit 4401 (settingsOf 2 1 1 1)
-  pub b-64 : Fit 4649 (settingsOf 64 1 1 1)
+  pub b-2 : Fit 4403 (settingsOf 2 1 1 1)
+  pub b-64 : Fit 4713 (settingsOf 64 1 1 1)
   pub b-65 : Unfit (settingsOf 65 1 1 1)
   -- "q at least 1 with 2q ≤ b"
   pub q-0 : Unfit (settingsOf 2 0 1 1)
-  pub q-half : Fit 4409 (settingsOf 4 2 1 1)
+  pub q-half : Fit 4413 (settingsOf 4 2 1 1)
   pub q-above-half : Unfit (settingsOf 4 3 1 1)
   pub b-below-double : Unfit (settingsOf 3 2 1 1)
   -- "block limit B 1 to 4,096"
   pub blocks-0 : Unfit (settingsOf 2 1 0 1)
-  pub blocks-4096 : Fit 69921 (settingsOf 2 1 4096 1)
+  pub blocks-4096 : Fit 78113 (settingsOf 2 1 4096 1)
   pub blocks-4097 : Unfit (settingsOf 2 1 4097 1)
   -- "D 1 to 4,096"
   pub tags-0 : Unfit (settingsOf 2 1 1 0)
-  pub tags-4096 : Fit 8496 (settingsOf 2 1 1 4096)
+  pub tags-4096 : Fit 8498 (settingsOf 2 1 1 4096)
   pub tags-4097 : Unfit (settingsOf 2 1 1 4097)
   -- 2: "The store has fewer than 16 words"; with 16 it is 4
   pub words-15 : (ws : List ℕ) → length ws ≡ 15 → Refuses 2 ws (Start settings)
@@ -93,6 +93,6 @@ pub record HeadEdges : Type 0 where
   pub fill-6 : AllRefuse 3 (headOnly ▹ Head headOpened ≔ 1 ▹ Head headFill ≔ 6)
   -- "(not 0, for N = 0)"
   pub fill-none : AllRefuse 3 (headOnly ▹ Head headFill ≔ 1)
-  -- 4: "The store is shorter than its layout", of 4,586 words
-  pub short : AllRefuse 4 (take 4585 three)
-  pub long : Passes (take 4586 three) (Advance 9)
+  -- 4: "The store is shorter than its layout", of 4,621 words
+  pub short : AllRefuse 4 (take 4620 three)
+  pub long : Passes (take 4621 three) (Advance 9)

@@ -25,32 +25,32 @@ Zeroes ws t rows list =
 pub record AskEdges : Type 0 where
   -- 5: "The time is OPEN", before all that follow
   pub time-open : (rows list : List ℕ) → Refuses 5 tree (Ask (LookBack OPEN rows list))
-  pub time-last : Passes (tree ▹ Head headClock ≔ OPEN - 1) (asked (OPEN - 1) 6 8)
+  pub time-last : Passes (tree ▹ Head headClock ≔ OPEN - 1) (asked (OPEN - 1) 9 8)
   -- 7: "A look-back is later than the clock", before all that follow
   pub late : (rows list : List ℕ) → Refuses 7 tree (Ask (LookBack 10 rows list))
-  pub now : Passes tree (asked 9 6 8)
-  -- 11: "The row buffer has fewer than 2D words or the list fewer than B"
-  pub rows-5 : Refuses 11 tree (asked 8 5 8)
-  pub list-7 : Refuses 11 tree (asked 8 6 7)
-  pub enough : Passes tree (asked 8 6 8)
+  pub now : Passes tree (asked 9 9 8)
+  -- 11: "The row buffer has fewer than 2D words or the list fewer than B"; with rows of three words it is 3D
+  pub rows-8 : Refuses 11 tree (asked 8 8 8)
+  pub list-7 : Refuses 11 tree (asked 8 9 7)
+  pub enough : Passes tree (asked 8 9 8)
   -- before 12, and then the buffers keep their words
-  pub rows-first : Refuses 11 (tree ▹ Field 6 upWord ≔ 6) (asked 8 5 8)
-  pub list-first : Refuses 11 (tree ▹ Field 6 upWord ≔ 6) (asked 8 6 7)
-  pub rows-kept : step (tree ▹ Field 6 upWord ≔ 6) (asked 8 5 8) .lent ≡ replicate 5 77 ∷ replicate 8 77 ∷ []
+  pub rows-first : Refuses 11 (tree ▹ Field 6 upWord ≔ 6) (asked 8 8 8)
+  pub list-first : Refuses 11 (tree ▹ Field 6 upWord ≔ 6) (asked 8 9 7)
+  pub rows-kept : step (tree ▹ Field 6 upWord ≔ 6) (asked 8 8 8) .lent ≡ replicate 8 77 ∷ replicate 8 77 ∷ []
 
 -- ---- 12: path and visits, at 8
 abbrev pub Sees : List ℕ → Type 0
-Sees ws = Passes ws (asked 8 6 8)
+Sees ws = Passes ws (asked 8 9 8)
 
 abbrev pub Unsound : List ℕ → Type 0
-Unsound ws = Zeroes ws 8 6 8
+Unsound ws = Zeroes ws 8 9 8
 
 pub record WalkEdges : Type 0 where
   -- the walk that is damaged below: path 6, 2; from 6 a visit of 4, its last child 5 and its left 3; from 2 of 1
-  pub sound : step tree (asked 8 6 8) .answer ≡ view [] (6 ∷ 4 ∷ 5 ∷ 3 ∷ 2 ∷ 1 ∷ []) onePage 1
+  pub sound : step tree (asked 8 9 8) .answer ≡ view [] (6 ∷ 4 ∷ 5 ∷ 3 ∷ 2 ∷ 1 ∷ []) onePage 1
   -- 12 is among the refusals that are listed for it, and none is for the sound walk
-  pub tests-12 : refusal (testsOf (tree ▹ Field 6 upWord ≔ 6) (asked 8 6 8)) ≡ 12
-  pub tests-none : refusal (testsOf tree (asked 8 6 8)) ≡ 0
+  pub tests-12 : refusal (testsOf (tree ▹ Field 6 upWord ≔ 6) (asked 8 9 8)) ≡ 12
+  pub tests-none : refusal (testsOf tree (asked 8 9 8)) ≡ 0
   -- "an up not below its block": the first of the path, and the last; not of a block that is only visited
   pub up-6 : Unsound (tree ▹ Field 6 upWord ≔ 6)
   pub up-5 : Sees (tree ▹ Field 6 upWord ≔ 5)
@@ -98,23 +98,23 @@ pub record WalkEdges : Type 0 where
 
 -- ---- 12: the pages of the index. In `many n` a look-back finds block n, which is listed alone and shows no row.
 abbrev pub Finds : List ℕ → ℕ → ℕ → List ℕ → ℕ → Type 0
-Finds ws t n pages read = step ws (asked t 2 n) .answer ≡ view [] (n ∷ []) pages read
+Finds ws t n pages read = step ws (asked t 3 n) .answer ≡ view [] (n ∷ []) pages read
 
 pub record PageEdges : Type 0 where
   -- "The top level is the lowest that has all entries on one page": from 17 blocks on the middle, from 257 the highest
-  pub blocks-16 : Finds (many 16 4641) 5 16 (0 ∷ OPEN ∷ OPEN ∷ []) 1
-  pub blocks-17 : Finds (many 17 4657) 5 17 (1 ∷ 0 ∷ OPEN ∷ []) 2
-  pub blocks-256 : Finds (many 256 8481) 5 256 (15 ∷ 0 ∷ OPEN ∷ []) 2
-  pub blocks-257 : Finds (many 257 8497) 5 257 (16 ∷ 1 ∷ 0 ∷ []) 3
+  pub blocks-16 : Finds (many 16 4673) 5 16 (0 ∷ OPEN ∷ OPEN ∷ []) 1
+  pub blocks-17 : Finds (many 17 4691) 5 17 (1 ∷ 0 ∷ OPEN ∷ []) 2
+  pub blocks-256 : Finds (many 256 8993) 5 256 (15 ∷ 0 ∷ OPEN ∷ []) 2
+  pub blocks-257 : Finds (many 257 9011) 5 257 (16 ∷ 1 ∷ 0 ∷ []) 3
   -- "Entries beyond N are not entries": the third of the middle level is 0, and its page has none
-  pub blocks-32 : Finds (many 32 4897) 5 32 (1 ∷ 0 ∷ OPEN ∷ []) 2
+  pub blocks-32 : Finds (many 32 4961) 5 32 (1 ∷ 0 ∷ OPEN ∷ []) 2
   -- "a lower page with no entry up to t": the page that has the last block's entry alone, which is 5; it is the lowest
   -- of two levels, the lowest of three, the middle of three
-  pub page-at : Finds (many 17 4657 ▹ Time 0 16 ≔ 5) 5 17 (1 ∷ 0 ∷ OPEN ∷ []) 2
-  pub page-before : Zeroes (many 17 4657 ▹ Time 0 16 ≔ 5) 4 2 17
-  pub low-at : Finds (many 257 8497 ▹ Time 0 256 ≔ 5) 5 257 (16 ∷ 1 ∷ 0 ∷ []) 3
-  pub low-before : Zeroes (many 257 8497 ▹ Time 0 256 ≔ 5) 4 2 257
-  pub middle-at : Finds (many 257 8497 ▹ Time 1 16 ≔ 5) 5 257 (16 ∷ 1 ∷ 0 ∷ []) 3
-  pub middle-before : Zeroes (many 257 8497 ▹ Time 1 16 ≔ 5) 4 2 257
+  pub page-at : Finds (many 17 4691 ▹ Time 0 16 ≔ 5) 5 17 (1 ∷ 0 ∷ OPEN ∷ []) 2
+  pub page-before : Zeroes (many 17 4691 ▹ Time 0 16 ≔ 5) 4 3 17
+  pub low-at : Finds (many 257 9011 ▹ Time 0 256 ≔ 5) 5 257 (16 ∷ 1 ∷ 0 ∷ []) 3
+  pub low-before : Zeroes (many 257 9011 ▹ Time 0 256 ≔ 5) 4 3 257
+  pub middle-at : Finds (many 257 9011 ▹ Time 1 16 ≔ 5) 5 257 (16 ∷ 1 ∷ 0 ∷ []) 3
+  pub middle-before : Zeroes (many 257 9011 ▹ Time 1 16 ≔ 5) 4 3 257
   -- the top page may have none: "the state is empty after 1 page and 0 blocks"
-  pub top-before : step (many 17 4657 ▹ Time 1 0 ≔ 5 ▹ Time 1 1 ≔ 5) (asked 4 2 17) .answer ≡ view [] [] (OPEN ∷ 0 ∷ OPEN ∷ []) 1
+  pub top-before : step (many 17 4691 ▹ Time 1 0 ≔ 5 ▹ Time 1 1 ≔ 5) (asked 4 3 17) .answer ≡ view [] [] (OPEN ∷ 0 ∷ OPEN ∷ []) 1

@@ -28,7 +28,7 @@ use Rattle.edges.specs.Edges.{Edges}
 use Rattle.edges.specs.EdgesHeadProof.{start-edges, head-edges}
 use Rattle.edges.specs.EdgesWordsProof.{word-edges}
 
-three-left : wordsAfter (step (replicate 4586 9) (Start settings) .store) toThree ≡ three
+three-left : wordsAfter (step (replicate 4621 9) (Start settings) .store) toThree ≡ three
 unfolding three bitAt withBit withoutBit bitsFrom slotsOf blockLen layoutLen each inLimits headOf headWords withHead cleared badHead placed storeCursor stands raised lowered readWord writeWord wipeBlock over enterTime openBlock unlink endRecord standing putRecord moveRecord closeFull judgeFull roll makeRoom place replace close judge clearTag finish setProgram clearProgram badPlace badBlock unsoundSet unsoundClear blocksOut start set clear
 three-left = refl
 
@@ -166,7 +166,7 @@ ask-edges = record {
   time-last = refl;
   late = λ rows list. refl;
   now = refl;
-  rows-5 = refl;
+  rows-8 = refl;
   list-7 = refl;
   enough = refl;
   rows-first = refl;

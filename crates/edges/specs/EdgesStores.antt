@@ -62,7 +62,7 @@ cursorOf opened clock fill child right = record { opened = opened; clock = clock
 
 -- ---- the stores, their settings, N, fill and clock unlike one another as far as can be
 
--- b = 5, q = 2, B = 7, D = 6: the head alone as a start leaves it, and with all 4,586 words of its layout
+-- b = 5, q = 2, B = 7, D = 6: the head alone as a start leaves it, and with all 4,621 words of its layout
 abbrev pub settings : Settings
 settings = settingsOf 5 2 7 6
 
@@ -70,32 +70,32 @@ unfoldable pub headOnly : List ℕ
 headOnly = headWords (freshHead settings)
 
 unfoldable pub fresh : List ℕ
-fresh = headWords (freshHead settings) ++ replicate 4570 0
+fresh = headWords (freshHead settings) ++ replicate 4605 0
 
 -- Three open blocks in a row, the clock at 9. Tags 4 and 5 stand in slots 0 and 1 of block 1, tags 0 and 1 in slots 0
 -- and 2 of block 2; tag 2 stands in slot 3 of block 3, the acceptor, and is its last record; tag 3 does not stand. A
 -- block: opened, closed, up, left, last child, right, standing bits low and high; then its records: tag, reading,
--- from, to.
+-- from, to, since.
 unfoldable pub three : List ℕ
 three = storeOf settings (cursorOf 3 9 4 0 1) (1 ∷ 2 ∷ 3 ∷ []) (6 ∷ 8 ∷ 14 ∷ 0 ∷ 1 ∷ 2 ∷ [])
     (1 ∷ OPEN ∷ 0 ∷ 0 ∷ 0 ∷ 2 ∷ 3 ∷ 0
-    ∷ 4 ∷ 10 ∷ 1 ∷ OPEN
-    ∷ 5 ∷ 11 ∷ 1 ∷ OPEN
-    ∷ 0 ∷ 12 ∷ 1 ∷ 2
-    ∷ 1 ∷ 13 ∷ 1 ∷ 2
-    ∷ 3 ∷ 14 ∷ 1 ∷ 2
+    ∷ 4 ∷ 10 ∷ 1 ∷ OPEN ∷ 1
+    ∷ 5 ∷ 11 ∷ 1 ∷ OPEN ∷ 1
+    ∷ 0 ∷ 12 ∷ 1 ∷ 2 ∷ 1
+    ∷ 1 ∷ 13 ∷ 1 ∷ 2 ∷ 1
+    ∷ 3 ∷ 14 ∷ 1 ∷ 2 ∷ 1
     ∷ 2 ∷ OPEN ∷ 1 ∷ 0 ∷ 0 ∷ 3 ∷ 5 ∷ 0
-    ∷ 0 ∷ 15 ∷ 2 ∷ OPEN
-    ∷ 2 ∷ 16 ∷ 2 ∷ 3
-    ∷ 1 ∷ 17 ∷ 2 ∷ OPEN
-    ∷ 3 ∷ 18 ∷ 2 ∷ 2
-    ∷ 3 ∷ 19 ∷ 2 ∷ 3
+    ∷ 0 ∷ 15 ∷ 2 ∷ OPEN ∷ 2
+    ∷ 2 ∷ 16 ∷ 2 ∷ 3 ∷ 2
+    ∷ 1 ∷ 17 ∷ 2 ∷ OPEN ∷ 2
+    ∷ 3 ∷ 18 ∷ 2 ∷ 2 ∷ 2
+    ∷ 3 ∷ 19 ∷ 2 ∷ 3 ∷ 2
     ∷ 3 ∷ OPEN ∷ 2 ∷ 0 ∷ 0 ∷ 0 ∷ 8 ∷ 0
-    ∷ 3 ∷ 20 ∷ 3 ∷ 4
-    ∷ 3 ∷ 21 ∷ 4 ∷ 5
-    ∷ 3 ∷ 22 ∷ 5 ∷ 6
-    ∷ 2 ∷ 23 ∷ 9 ∷ OPEN
-    ∷ replicate 116 0)
+    ∷ 3 ∷ 20 ∷ 3 ∷ 4 ∷ 3
+    ∷ 3 ∷ 21 ∷ 4 ∷ 5 ∷ 4
+    ∷ 3 ∷ 22 ∷ 5 ∷ 6 ∷ 5
+    ∷ 2 ∷ 23 ∷ 9 ∷ OPEN ∷ 9
+    ∷ replicate 137 0)
 
 -- the calls that leave it, from a fresh register
 abbrev pub toThree : List Call
@@ -115,37 +115,37 @@ out = brim ▹ Head headBlocks ≔ 3
 -- full, and tag 2 stands in its last slot, 32, whose bit is the lowest of the high word.
 unfoldable pub wide : List ℕ
 wide = storeOf (settingsOf 33 2 3 3) (cursorOf 2 9 33 0 1) (1 ∷ 2 ∷ []) (1 ∷ 2 ∷ 66 ∷ [])
-    ((1 ∷ OPEN ∷ 0 ∷ 0 ∷ 0 ∷ 2 ∷ 3 ∷ 0 ∷ 0 ∷ 10 ∷ 1 ∷ OPEN ∷ 1 ∷ 11 ∷ 1 ∷ OPEN ∷ replicate 124 0)
-    ++ (2 ∷ OPEN ∷ 1 ∷ 0 ∷ 0 ∷ 0 ∷ 0 ∷ 1 ∷ replicate 128 0)
-    ++ (2 ∷ 12 ∷ 2 ∷ OPEN ∷ replicate 140 0))
+    ((1 ∷ OPEN ∷ 0 ∷ 0 ∷ 0 ∷ 2 ∷ 3 ∷ 0 ∷ 0 ∷ 10 ∷ 1 ∷ OPEN ∷ 0 ∷ 1 ∷ 11 ∷ 1 ∷ OPEN ∷ 1 ∷ replicate 155 0)
+    ++ (2 ∷ OPEN ∷ 1 ∷ 0 ∷ 0 ∷ 0 ∷ 0 ∷ 1 ∷ replicate 160 0)
+    ++ (2 ∷ 12 ∷ 2 ∷ OPEN ∷ 2 ∷ replicate 173 0))
 
 -- b = 6, q = 3, B = 3, D = 4, the clock at 9. Tags 0, 1 and 2 stand in block 1; block 2, the acceptor, has four
 -- records, of which that in slot 2 stands, for tag 3.
 unfoldable pub six : List ℕ
 six = storeOf (settingsOf 6 3 3 4) (cursorOf 2 9 4 0 1) (1 ∷ 2 ∷ []) (1 ∷ 2 ∷ 3 ∷ 9 ∷ [])
     (1 ∷ OPEN ∷ 0 ∷ 0 ∷ 0 ∷ 2 ∷ 7 ∷ 0
-    ∷ 0 ∷ 10 ∷ 1 ∷ OPEN
-    ∷ 1 ∷ 11 ∷ 1 ∷ OPEN
-    ∷ 2 ∷ 12 ∷ 1 ∷ OPEN
-    ∷ 3 ∷ 13 ∷ 1 ∷ 1
-    ∷ 3 ∷ 14 ∷ 1 ∷ 1
-    ∷ 3 ∷ 15 ∷ 1 ∷ 2
+    ∷ 0 ∷ 10 ∷ 1 ∷ OPEN ∷ 0
+    ∷ 1 ∷ 11 ∷ 1 ∷ OPEN ∷ 0
+    ∷ 2 ∷ 12 ∷ 1 ∷ OPEN ∷ 0
+    ∷ 3 ∷ 13 ∷ 1 ∷ 1 ∷ 0
+    ∷ 3 ∷ 14 ∷ 1 ∷ 1 ∷ 0
+    ∷ 3 ∷ 15 ∷ 1 ∷ 2 ∷ 0
     ∷ 2 ∷ OPEN ∷ 1 ∷ 0 ∷ 0 ∷ 0 ∷ 4 ∷ 0
-    ∷ 3 ∷ 16 ∷ 2 ∷ 3
-    ∷ 3 ∷ 17 ∷ 3 ∷ 4
-    ∷ 3 ∷ 18 ∷ 4 ∷ OPEN
-    ∷ replicate 44 0)
+    ∷ 3 ∷ 16 ∷ 2 ∷ 3 ∷ 0
+    ∷ 3 ∷ 17 ∷ 3 ∷ 4 ∷ 0
+    ∷ 3 ∷ 18 ∷ 4 ∷ OPEN ∷ 0
+    ∷ replicate 53 0)
 
 -- b = 2, q = 1, B = 8, D = 3, the clock at 9. Blocks 2 and 6 are open; 1, 3, 4 and 5 closed at 9. At 8 the path is 6,
 -- 2: between them lies 4, with last child 5 and left 3; block 0's last child is 1. No record stands.
 unfoldable pub tree : List ℕ
 tree = storeOf (settingsOf 2 1 8 3) (cursorOf 6 9 1 1 2) (1 ∷ 2 ∷ 3 ∷ 4 ∷ 5 ∷ 6 ∷ []) (0 ∷ 0 ∷ 0 ∷ [])
-    ((1 ∷ 9 ∷ 0 ∷ 0 ∷ 0 ∷ 2 ∷ replicate 10 0)
-    ++ (2 ∷ OPEN ∷ 0 ∷ 0 ∷ 4 ∷ 6 ∷ replicate 10 0)
-    ++ (3 ∷ 9 ∷ 2 ∷ 0 ∷ 0 ∷ 4 ∷ replicate 10 0)
-    ++ (4 ∷ 9 ∷ 2 ∷ 3 ∷ 5 ∷ 6 ∷ replicate 10 0)
-    ++ (5 ∷ 9 ∷ 4 ∷ 0 ∷ 0 ∷ 6 ∷ replicate 10 0)
-    ++ (6 ∷ OPEN ∷ 2 ∷ 0 ∷ 0 ∷ 0 ∷ replicate 42 0))
+    ((1 ∷ 9 ∷ 0 ∷ 0 ∷ 0 ∷ 2 ∷ replicate 12 0)
+    ++ (2 ∷ OPEN ∷ 0 ∷ 0 ∷ 4 ∷ 6 ∷ replicate 12 0)
+    ++ (3 ∷ 9 ∷ 2 ∷ 0 ∷ 0 ∷ 4 ∷ replicate 12 0)
+    ++ (4 ∷ 9 ∷ 2 ∷ 3 ∷ 5 ∷ 6 ∷ replicate 12 0)
+    ++ (5 ∷ 9 ∷ 4 ∷ 0 ∷ 0 ∷ 6 ∷ replicate 12 0)
+    ++ (6 ∷ OPEN ∷ 2 ∷ 0 ∷ 0 ∷ 0 ∷ replicate 48 0))
 
 -- b = 2, q = 1, B = N = n, D = 1, the clock at 9, as many words as the layout has, all behind the head 0: n blocks that
 -- were opened and closed at 0

@@ -37,7 +37,10 @@ fn block_word(memory: &mut Memory, s: Settings, n: u32, of_record: bool) -> u32 
     let block = sum(below(memory, n), 1);
     if of_record {
         let k = below(memory, s.block);
-        return sum(settings::slot_start(s, block, k), below(memory, 4));
+        return sum(
+            settings::slot_start(s, block, k),
+            below(memory, settings::RECORD_WORDS),
+        );
     }
     sum(settings::block_start(s, block), below(memory, 8))
 }

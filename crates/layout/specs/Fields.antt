@@ -66,3 +66,6 @@ fromWord = 2
 
 abbrev pub toWord : ℕ
 toWord = 3
+
+abbrev pub sinceWord : ℕ
+sinceWord = 4

@@ -34,6 +34,10 @@ pub onto : {h d r : Head} {p : Prog Cursor} {k : Cursor → Prog Cursor} {w w₁
     → Moved h p w d w₁ → Moved (onward h (d .cursor)) (k (d .cursor)) w₁ r w₂ → Moved h (bind p k) w r w₂
 onto m n = record { ran = then (m .ran) (n .ran); settings = n .settings }
 
+-- ---- the head made anew: h with the cursor to which a call moved it on
+pub anew : {h d r : Head} {p : Prog Cursor} {w w′ : List ℕ} → Moved h p w d w′ → r ≡ onward h (d .cursor) → Moved h p w r w′
+anew {h} {d} {r} {p} {w} {w′} m e = subst (λ (x : Head). Moved h p w x w′) (sym e) (record { ran = m .ran; settings = refl })
+
 -- ---- a branch
 pub if-taken : {h r : Head} {b : Bool} {p q : Prog Cursor} {w w′ : List ℕ} → b ≡ true → Moved h p w r w′ → Moved h (when b p q) w r w′
 if-taken e m = record { ran = taken e (m .ran); settings = m .settings }

@@ -1,5 +1,5 @@
 -- Parts of the store: how long they are, which words they have, and what zeroing one leaves.
-use mathlib.Core.Path.{_≡_, refl, sym, ap, _∙_}
+use mathlib.Core.Path.{_≡_, refl, sym, ap, ap₂, _∙_}
 use mathlib.Core.List.{List, append-assoc}
 use Prim.Native.Nat.{ℕ, zero, suc, _+_, _*_, _-_, _≤_, _<_}
 use native.Mathlib.Omega.{arith}
@@ -114,4 +114,4 @@ module _ (s : Settings) (ws : List ℕ) where
 
 -- ---- records with the same words tell the same
 pub payload-same : {v w : ℕ → ℕ} → ((i : ℕ) → i < recordLen → v i ≡ w i) → payloadOf v ≡ payloadOf w
-payload-same h = ap newPayload (h _ (omega arith))
+payload-same h = ap₂ newPayload (h _ (omega arith)) (h _ (omega arith))

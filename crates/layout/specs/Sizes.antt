@@ -26,13 +26,13 @@ blockHead = 8
 abbrev pub bitsStart : ℕ
 bitsStart = 6
 
--- tag, reading, from, to
+-- tag, reading, from, to, since
 abbrev pub recordLen : ℕ
-recordLen = 4
+recordLen = 5
 
--- a row that a look-back gives: tag, reading
+-- a row that a look-back gives: tag, reading, since
 abbrev pub rowLen : ℕ
-rowLen = 2
+rowLen = 3
 
 -- the index: three levels behind the head, each with its pages
 abbrev pub levelLen : ℕ → ℕ

@@ -60,3 +60,5 @@ pub const READING: u32 = 1;
 pub const FROM: u32 = 2;
 
 pub const TO: u32 = 3;
+
+pub const SINCE: u32 = 4;

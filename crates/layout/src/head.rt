@@ -58,11 +58,18 @@ impl Head {
         Head { settings, cursor }
     }
 
+    // The next head: the settings stay, the cursor moves on.
+    pub fn onward(self, cursor: Cursor) -> Head
+        ensures { λ r. ⌜ r ≡ onward self cursor ⌝ }
+    {
+        let settings = self.settings;
+        Head { settings, cursor }
+    }
+
     // The next head, its clock at `second`.
     pub fn at(self, second: u32) -> Head
         ensures { λ r. ⌜ r ≡ onward self (at second (self .cursor)) ⌝ }
     {
-        let settings = self.settings;
         let cursor = Cursor {
             opened: self.cursor.opened,
             clock: second,
@@ -70,7 +77,7 @@ impl Head {
             child: self.cursor.child,
             right: self.cursor.right,
         };
-        Head { settings, cursor }
+        self.onward(cursor)
     }
 
     // The next head, with one record more in the acceptor.
@@ -78,7 +85,6 @@ impl Head {
         requires { ⌜ self .cursor .fill < 64 ⌝ }
         ensures { λ r. ⌜ r ≡ onward self (filled (self .cursor)) ⌝ }
     {
-        let settings = self.settings;
         let cursor = Cursor {
             opened: self.cursor.opened,
             clock: self.cursor.clock,
@@ -86,7 +92,7 @@ impl Head {
             child: self.cursor.child,
             right: self.cursor.right,
         };
-        Head { settings, cursor }
+        self.onward(cursor)
     }
 
     // The next head, with one block more, empty; `right` is right of block 0.
@@ -94,7 +100,6 @@ impl Head {
         requires { ⌜ self .cursor .opened < 4096 ⌝ }
         ensures { λ r. ⌜ r ≡ onward self (grown right (self .cursor)) ⌝ }
     {
-        let settings = self.settings;
         let cursor = Cursor {
             opened: self.cursor.opened + 1,
             clock: self.cursor.clock,
@@ -102,14 +107,13 @@ impl Head {
             child: self.cursor.child,
             right,
         };
-        Head { settings, cursor }
+        self.onward(cursor)
     }
 
     // The next head, with block 0's last child and right.
     pub fn relinked(self, child: u32, right: u32) -> Head
         ensures { λ r. ⌜ r ≡ onward self (relinked child right (self .cursor)) ⌝ }
     {
-        let settings = self.settings;
         let cursor = Cursor {
             opened: self.cursor.opened,
             clock: self.cursor.clock,
@@ -117,7 +121,7 @@ impl Head {
             child,
             right,
         };
-        Head { settings, cursor }
+        self.onward(cursor)
     }
 
     // Records placed so far: every block before the acceptor is full.

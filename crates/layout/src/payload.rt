@@ -15,13 +15,18 @@ ghost use Rattle.layout.specs.Payload.{newPayload, payloadIn, getPayload
 
 pub struct Payload {
     pub reading: u32,
+    // the second of the last set or new reading
+    pub since: u32,
 }
 
-// What a set or a new reading tells.
-pub fn told(reading: u32) -> Payload
-    ensures { λ r. ⌜ r ≡ newPayload reading ⌝ }
+// What a set or a new reading at `second` tells.
+pub fn told(reading: u32, second: u32) -> Payload
+    ensures { λ r. ⌜ r ≡ newPayload reading second ⌝ }
 {
-    Payload { reading }
+    Payload {
+        reading,
+        since: second,
+    }
 }
 
 // Of the record in slot k of block n.
@@ -31,7 +36,8 @@ pub fn read(store: &[u32], s: Settings, n: u32, k: u32) -> Payload
     ensures { λ r. ⌜ Ran (over s) (getPayload n k) (now (store .entry)) r (now (store .entry)) ⌝ }
 {
     let reading = address::read(store, s, Address::Slot(n, k, fields::READING));
-    Payload { reading }
+    let since = address::read(store, s, Address::Slot(n, k, fields::SINCE));
+    Payload { reading, since }
 }
 
 // Written to slot k of block n.
@@ -41,6 +47,7 @@ pub fn write(store: &mut [u32], s: Settings, n: u32, k: u32, p: Payload)
     ensures { λ _. ⌜ Ran (over s) (setPayload n k p) (now (store .entry)) tt (now (store .exit)) ⌝ }
 {
     address::write(store, s, Address::Slot(n, k, fields::READING), p.reading);
+    address::write(store, s, Address::Slot(n, k, fields::SINCE), p.since);
 }
 
 // Of the record in slot k of a block.
@@ -50,5 +57,6 @@ pub fn in_slot(block: &[u32], k: u32) -> Payload
 {
     Payload {
         reading: parts::slot_word(block, k, fields::READING),
+        since: parts::slot_word(block, k, fields::SINCE),
     }
 }

@@ -18,8 +18,8 @@ pub const BLOCK_HEAD: usize = 8;
 // the two words of standing bits stand behind the six of seconds and links
 pub const BITS_START: usize = 6;
 
-// a slot's record: tag, reading, from, to
-pub const RECORD_LEN: usize = 4;
+// a slot's record: tag, reading, from, to, since
+pub const RECORD_LEN: usize = 5;
 
 // where the three levels of the index start, and the directory behind them
 pub const LEVEL_0: usize = 16;
@@ -30,5 +30,5 @@ pub const LEVEL_2: usize = 4368;
 
 pub const DIR_START: usize = 4384;
 
-// a row that a look-back gives: tag, reading
-pub const ROW_LEN: usize = 2;
+// a row that a look-back gives: tag, reading, since
+pub const ROW_LEN: usize = 3;

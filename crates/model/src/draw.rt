@@ -129,7 +129,7 @@ pub fn change(memory: &mut Memory, kind: u32) -> Change {
 
 // A look-back at a second, with buffers for D rows and B blocks.
 pub fn look_back_at(memory: &mut Memory, length: u32, second: u32) -> LookBack {
-    let rows = product(2, get(memory, book::TAGS));
+    let rows = product(settings::ROW_WORDS, get(memory, book::TAGS));
     let row_words = buffer(memory, rows);
     let blocks = get(memory, book::MOST_BLOCKS);
     let list_words = buffer(memory, blocks);

@@ -60,7 +60,7 @@ pub fn change(memory: &mut Memory, c: Change) -> u32 {
 
 pub fn look_back(memory: &Memory, a: LookBack) -> u32 {
     let late = unless(a.second <= get(memory, book::CLOCK), refusal::LATE);
-    let rows = product(2, get(memory, book::TAGS)) <= a.row_words;
+    let rows = product(settings::ROW_WORDS, get(memory, book::TAGS)) <= a.row_words;
     let list = get(memory, book::MOST_BLOCKS) <= a.list_words;
     let short = unless(rows & list, refusal::SHORT_BUFFER);
     first(on_store(memory, a.length, a.second), first(late, short))

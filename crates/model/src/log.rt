@@ -5,7 +5,8 @@ use crate::book;
 use crate::memory::*;
 use crate::words::*;
 
-const SECOND: u32 = 0;
+// A set or a new reading stands since its second.
+pub const SECOND: u32 = 0;
 
 const TAG: u32 = 1;
 

@@ -4,6 +4,7 @@ use crate::book;
 use crate::log;
 use crate::memory::*;
 use crate::refusal::UNSOUND;
+use crate::settings::ROW_WORDS;
 use crate::words::*;
 
 // Words of a buffer beyond the lent ones that are compared too.
@@ -42,7 +43,7 @@ fn is_left(memory: &Memory, part: u32, zeros: u32, from: u32, lent: u32) -> bool
 
 // An answered look-back has left the words after its rows and its list; the counts fit the lent words.
 fn rest_left(memory: &Memory, a: LookBack) -> u32 {
-    let used = product(2, get(memory, ROW_COUNT));
+    let used = product(ROW_WORDS, get(memory, ROW_COUNT));
     let named = get(memory, LIST_COUNT);
     let fit = (used <= a.row_words) & (named <= a.list_words);
     let rows = is_left(memory, ROWS, 0, used, a.row_words);
@@ -67,27 +68,44 @@ pub fn left(memory: &Memory, a: LookBack, got: u32) -> u32 {
     all_left(memory, a, unless(got != UNSOUND, 1))
 }
 
-// How often two words stand at the ends of one of the first steps of a part: in a row a tag and its reading, in the list one block.
-fn times(memory: &Memory, part: u32, step: u32, count: u32, x: u32, y: u32) -> u32 {
+// Row i is this one.
+fn is_row(memory: &Memory, i: u32, tag: u32, reading: u32, since: u32) -> bool {
+    let row = sum(ROWS, product(ROW_WORDS, i));
+    (get(memory, row) == tag) & (at(memory, row, 1) == reading) & (at(memory, row, 2) == since)
+}
+
+// How many of the first rows are this one.
+fn rows_like(memory: &Memory, count: u32, tag: u32, reading: u32, since: u32) -> u32 {
     let mut found: u32 = 0;
     for i in 0..count {
-        let start = sum(part, product(step, i));
-        if (get(memory, start) == x) & (at(memory, start, less(step, 1)) == y) {
+        if is_row(memory, i, tag, reading, since) {
             found = sum(found, 1);
         }
     }
     found
 }
 
-// How many rows are due for a tag at t: one if it stands, with its reading; more than there are if it has no such row, or several.
+// How often the first words of the list name a block.
+fn times_listed(memory: &Memory, count: u32, n: u32) -> u32 {
+    let mut found: u32 = 0;
+    for i in 0..count {
+        if at(memory, LIST, i) == n {
+            found = sum(found, 1);
+        }
+    }
+    found
+}
+
+// How many rows are due for a tag at t: one if it stands, with its reading and since when; more than there are if it has no such row, or several.
 fn rows_due(memory: &Memory, tag: u32, t: u32) -> u32 {
     let made = log::state_at(memory, tag, t);
     if made == 0 {
         return 0;
     }
-    let count = least(get(memory, ROW_COUNT), 320);
+    let count = least(get(memory, ROW_COUNT), 640 / ROW_WORDS);
     let reading = at(memory, log::change(made), log::READING);
-    let once = times(memory, ROWS, 2, count, tag, reading) == 1;
+    let since = at(memory, log::change(made), log::SECOND);
+    let once = rows_like(memory, count, tag, reading, since) == 1;
     if once { 1 } else { 65536 }
 }
 
@@ -104,7 +122,7 @@ fn rows_agree(memory: &Memory, t: u32) -> u32 {
 // The list names a block of the book, and once.
 fn is_listed(memory: &Memory, n: u32) -> bool {
     let count = least(get(memory, LIST_COUNT), 640);
-    (n != 0) & (n <= get(memory, book::BLOCKS)) & (times(memory, LIST, 1, count, n, n) == 1)
+    (n != 0) & (n <= get(memory, book::BLOCKS)) & (times_listed(memory, count, n) == 1)
 }
 
 // The list names blocks of the book, none twice.

@@ -78,9 +78,14 @@ pub fn within(s: Settings) -> bool {
 // Where the directory starts: after the head's 16 words and the index's 4,096 + 256 + 16. The blocks follow it.
 pub const DIRECTORY: u32 = 4384;
 
+// A record's words: tag, reading, from, to, since. A row's: tag, reading, since.
+pub const RECORD_WORDS: u32 = 5;
+
+pub const ROW_WORDS: u32 = 3;
+
 // The first word of block n, n from 1.
 pub fn block_start(s: Settings, n: u32) -> u32 {
-    let length = sum(8, product(4, s.block));
+    let length = sum(8, product(RECORD_WORDS, s.block));
     sum(sum(DIRECTORY, s.tags), product(less(n, 1), length))
 }
 
@@ -91,5 +96,5 @@ pub fn layout(s: Settings) -> u32 {
 
 // The first word of slot k of block n.
 pub fn slot_start(s: Settings, n: u32, k: u32) -> u32 {
-    sum(block_start(s, n), sum(8, product(4, k)))
+    sum(block_start(s, n), sum(8, product(RECORD_WORDS, k)))
 }

@@ -66,16 +66,21 @@ fn roll(store: &mut [u32], h: Head, second: u32) -> Head
     judge_full(store, opened, last, second)
 }
 
-// Room for a record: a block opens if the acceptor is full, or N is 0.
+// Room for a record: a block opens if the acceptor is full, or N is 0. Of the head that `roll` hands back only the cursor is taken, for the settings
+// stay; with the whole head placing a record would no longer be compiled into its callers (docs/DECISIONS.md 38).
 fn make_room(store: &mut [u32], h: Head, second: u32) -> Head
     requires { ⌜ Able (h .settings) (makeRoom (h .settings) (h .cursor) second) (now store) ⌝ }
     ensures { λ r. ⌜ Moved h (makeRoom (h .settings) (h .cursor) second) (now (store .entry)) r (now (store .exit)) ⌝ }
 {
     if h.cursor.opened == 0 {
-        return roll(store, h, second);
+        let rolled = roll(store, h, second);
+        let cursor = rolled.cursor;
+        return h.onward(cursor);
     }
     if h.cursor.fill == h.settings.block {
-        return roll(store, h, second);
+        let rolled = roll(store, h, second);
+        let cursor = rolled.cursor;
+        return h.onward(cursor);
     }
     h
 }
@@ -87,7 +92,8 @@ pub(crate) fn place(store: &mut [u32], h: Head, second: u32, tag: u32, reading: 
         (now (store .entry)) r (now (store .exit)) ⌝ }
 {
     let with_room = make_room(store, h, second);
-    records::put_record(store, with_room, second, tag, payload::told(reading))
+    let told = payload::told(reading, second);
+    records::put_record(store, with_room, second, tag, told)
 }
 
 // The record of slot k of block x moves to where any record goes.

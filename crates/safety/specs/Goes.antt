@@ -36,10 +36,10 @@ goes-wipe v g = record { safe = ((v, tt), g .safe); leaves = g .leaves }
 -- ---- what a record tells is read or written, then the rest
 module _ {A : Type 0} {s : Settings} {n k : ℕ} {f : Memory} {R : A → Memory → Type 0} (block : Numbered s n) (slot : k < s .block) where
   pub goes-read : {j : Payload → Prog A} → Goes s (j (payloadAt f n k)) f R → Goes s (bind (getPayload n k) j) f R
-  goes-read g = record { safe = ((((block, slot, lit≤ tt), tt), tt), g .safe); leaves = g .leaves }
+  goes-read g = record { safe = ((((block, slot, lit≤ tt), tt), (((block, slot, lit≤ tt), tt), tt)), g .safe); leaves = g .leaves }
 
   pub goes-write : {p : Payload} {j : Unit {0} → Prog A} → Goes s (j tt) ((runOn (setPayload n k p) f) .1) R → Goes s (bind (setPayload n k p) j) f R
-  goes-write g = record { safe = (((block, slot, lit≤ tt), tt), g .safe); leaves = g .leaves }
+  goes-write g = record { safe = ((((block, slot, lit≤ tt), tt), ((block, slot, lit≤ tt), tt)), g .safe); leaves = g .leaves }
 
 -- ---- nothing done, a part and then the rest, a branch
 pub goes-ret : {A : Type 0} {s : Settings} {x : A} {f : Memory} {Q : A → Memory → Type 0} → Q x f → Goes s (ret x) f Q

@@ -206,4 +206,4 @@ module _ (s : Settings) (z : Within s) where
   place-goes {m} c f now tag reading i known =
       goes-on (room-goes c f now i (omega arith)) (λ d g r.
       let nn : Numbered s (d .opened) = record { low = r .low; high = r .ready .limit } in
-      goes-so (put-goes s z d g now tag (newPayload reading) nn (r .room) known) (λ e h p. put-ready (r .ready) (r .low) (r .room) known p))
+      goes-so (put-goes s z d g now tag (newPayload reading now) nn (r .room) known) (λ e h p. put-ready (r .ready) (r .low) (r .room) known p))

@@ -62,16 +62,16 @@ module _ {s : Settings} {Due : ℕ → Type 0} where
   pub place-law : {clock : ℕ} {log : Timeline} (c : Cursor) (f : Memory) (now tag reading : ℕ) → Full s Due 0 0 clock log (shape c f) → clock ≤ now
       → now < OPEN → tag < s .tags → f (Dir tag) ≡ 0
       → let z = runOn (place s c now tag reading) f in
-      Made s Due now (logged now tag (some (newPayload reading)) log) (writesAt s now tag (blocksIn s (shape c f))) (shape (z .0) (z .1))
+      Made s Due now (logged now tag (some (newPayload reading now)) log) (writesAt s now tag (blocksIn s (shape c f))) (shape (z .0) (z .1))
   unfolding place
   place-law c f now tag reading i later ends known d =
       let z = runOn (makeRoom s c now) f in
       let r = room-law c f now i later ends in
       let unknown : z .1 (Dir tag) ≡ 0 = not-found (r .full .state) tag (free (i .state) tag d now later ends) in
-      let set = set-record (z .0) (z .1) (r .full .state) (omega arith) ends tag (newPayload reading) (r .low) (r .room) known unknown in
+      let set = set-record (z .0) (z .1) (r .full .state) (omega arith) ends tag (newPayload reading now) (r .low) (r .room) known unknown in
       record {
-        full = put-full (z .0) (z .1) tag (newPayload reading) r set;
-        shows = put-book s (z .0) (z .1) now tag (newPayload reading) (r .low) (r .full .state .links .last) ∙ rolled-write r tag;
+        full = put-full (z .0) (z .1) tag (newPayload reading now) r set;
+        shows = put-book s (z .0) (z .1) now tag (newPayload reading now) (r .low) (r .full .state .links .last) ∙ rolled-write r tag;
       }
 
 -- ---- a block closes whose records may fill the acceptor up: in the midst of it

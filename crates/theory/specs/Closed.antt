@@ -218,7 +218,7 @@ module _ {s : Settings} (z : Within s) {N total now : ℕ} {few : Bool} {C : ℕ
   unfolding place
   place-along c f tag reading most i =
       let y = runOn (makeRoom s c now) f in
-      put-along (y .0) (y .1) tag (newPayload reading) (room-along c f (omega arith) (omega arith) i)
+      put-along (y .0) (y .1) tag (newPayload reading now) (room-along c f (omega arith) (omega arith) i)
 
   -- a record of a block before the acceptor ends
   end-along : {m : ℕ} (c : Cursor) (f : Memory) (x k : ℕ) → x < N → Roomy s N total now few C m c f

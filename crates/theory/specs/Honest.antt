@@ -1,4 +1,4 @@
--- WHAT HOLDS OF THE WORDS AFTER A HISTORY (Honest): they hold a head and a memory at rest, the log's readings, the block book and its count.
+-- WHAT HOLDS OF THE WORDS AFTER A HISTORY (Honest): they hold a head and a memory at rest, what the log tells, the block book and its count.
 use mathlib.Core.Path.{_≡_, sym, ap, _∙_}
 use mathlib.Core.List.{List}
 use Prim.Native.Nat.{ℕ, _+_, _*_, _-_, _≤_, _<_}

@@ -87,13 +87,13 @@ from-then s t tag asked x new old f =
     (λ e. refl)
 
 module _ (log : Log) (s tag : ℕ) where
-  -- A set logs its reading, where nothing was told of the tag.
+  -- A set logs its reading and its second, where nothing was told of the tag.
   pub tellings-set : (reading t asked : ℕ) → (s ≤ t → tellings log t tag ≡ none)
-      → tellings (log ++ (Set s tag reading ∷ [])) t asked ≡ logged s tag (some (newPayload reading)) (tellings log) t asked
+      → tellings (log ++ (Set s tag reading ∷ [])) t asked ≡ logged s tag (some (newPayload reading s)) (tellings log) t asked
   tellings-set reading t asked absent =
       rw (state-last log (Set s tag reading) t)
-      (from-then s t tag asked (some (newPayload reading)) (andRow tag (newPayload reading) (stateAt log t)) (stateAt log t)
-      (λ p. telling-and tag (newPayload reading) asked (stateAt log t) (absent p)))
+      (from-then s t tag asked (some (newPayload reading s)) (andRow tag (newPayload reading s) (stateAt log t)) (stateAt log t)
+      (λ p. telling-and tag (newPayload reading s) asked (stateAt log t) (absent p)))
 
   -- A clear logs that there is none.
   pub tellings-clear : (t asked : ℕ) → tellings (log ++ (Clear s tag ∷ [])) t asked ≡ logged s tag none (tellings log) t asked
@@ -103,12 +103,12 @@ module _ (log : Log) (s tag : ℕ) where
 
   -- A new reading logs both.
   pub tellings-update : (reading t asked : ℕ)
-      → tellings (log ++ (Update s tag reading ∷ [])) t asked ≡ logged s tag (some (newPayload reading)) (logged s tag none (tellings log)) t asked
+      → tellings (log ++ (Update s tag reading ∷ [])) t asked ≡ logged s tag (some (newPayload reading s)) (logged s tag none (tellings log)) t asked
   tellings-update reading t asked =
       let rows = stateAt log t in
       rw (state-last log (Update s tag reading) t)
-      (from-then s t tag asked (some (newPayload reading)) (andRow tag (newPayload reading) (without tag rows)) rows
-      (λ p. telling-and tag (newPayload reading) asked (without tag rows) (without-none tag rows)
+      (from-then s t tag asked (some (newPayload reading s)) (andRow tag (newPayload reading s) (without tag rows)) rows
+      (λ p. telling-and tag (newPayload reading s) asked (without tag rows) (without-none tag rows)
       ∙ rw (telling-without tag asked rows) (sym (twice (eqb tag asked) _ _ _)))
       ∙ twice (leb s t && eqb tag asked) _ _ _)
 
@@ -116,11 +116,12 @@ module _ (log : Log) (s tag : ℕ) where
 
 -- Two payloads are equal or not, and so are two rows.
 payload-discrete : Discrete Payload
-payload-discrete x y = go (ℕ-discrete (x .reading) (y .reading))
+payload-discrete x y = go (ℕ-discrete (x .reading) (y .reading)) (ℕ-discrete (x .since) (y .since))
   where
-    go : Dec (x .reading ≡ y .reading) → Dec (x ≡ y)
-    go (yes p) = yes (ap newPayload p)
-    go (no d) = no (λ e. d (ap (λ (p : Payload). p .reading) e))
+    go : Dec (x .reading ≡ y .reading) → Dec (x .since ≡ y .since) → Dec (x ≡ y)
+    go (yes p) (yes q) = yes (ap₂ newPayload p q)
+    go (yes p) (no d) = no (λ e. d (ap (λ (p : Payload). p .since) e))
+    go (no d) q = no (λ e. d (ap (λ (p : Payload). p .reading) e))
 
 pub row-discrete : Discrete Row
 row-discrete x y = go (ℕ-discrete (x .tag) (y .tag)) (payload-discrete (x .payload) (y .payload))
@@ -196,14 +197,14 @@ module _ {log : Log} (s tag : ℕ) (i : Once log) where
 
   -- A set, of a tag that stands at no second from its own on.
   pub once-set : (reading : ℕ) → ((t : ℕ) → s ≤ t → t < OPEN → tellings log t tag ≡ none) → Once (log ++ (Set s tag reading ∷ []))
-  once-set reading absent = once-from (Set s tag reading) (λ t. andRow tag (newPayload reading) (stateAt log t)) (λ t. refl)
-      (λ t p o. unique-and tag (newPayload reading) (stateAt log t) (absent t p o) (i .at t o))
+  once-set reading absent = once-from (Set s tag reading) (λ t. andRow tag (newPayload reading s) (stateAt log t)) (λ t. refl)
+      (λ t p o. unique-and tag (newPayload reading s) (stateAt log t) (absent t p o) (i .at t o))
 
   pub once-clear : Once (log ++ (Clear s tag ∷ []))
   once-clear = once-from (Clear s tag) (λ t. without tag (stateAt log t)) (λ t. refl) (λ t p o. unique-without tag (stateAt log t) (i .at t o))
 
   pub once-update : (reading : ℕ) → Once (log ++ (Update s tag reading ∷ []))
-  once-update reading = once-from (Update s tag reading) (λ t. andRow tag (newPayload reading) (without tag (stateAt log t))) (λ t. refl)
+  once-update reading = once-from (Update s tag reading) (λ t. andRow tag (newPayload reading s) (without tag (stateAt log t))) (λ t. refl)
       (λ t p o.
       let rows = stateAt log t in
-      unique-and tag (newPayload reading) (without tag rows) (without-none tag rows) (unique-without tag rows (i .at t o)))
+      unique-and tag (newPayload reading s) (without tag rows) (without-none tag rows) (unique-without tag rows (i .at t o)))

@@ -100,7 +100,7 @@ module _ {s : Settings} {log : Timeline} {k : Book} {c : Cursor} {f : Memory} (i
 
     -- ---- a set
     pub after-set : (tag reading : ℕ) → tag < s .tags → f (Dir tag) ≡ 0
-        → let z = runOn (setProgram s c now tag reading) f in After s now (logged now tag (some (newPayload reading)) log) (bookSet now tag k) (z .0) (z .1)
+        → let z = runOn (setProgram s c now tag reading) f in After s now (logged now tag (some (newPayload reading now)) log) (bookSet now tag k) (z .0) (z .1)
     unfolding setProgram
     after-set tag reading known d =
         let z = runOn (place s c now tag reading) f in
@@ -121,7 +121,7 @@ module _ {s : Settings} {log : Timeline} {k : Book} {c : Cursor} {f : Memory} (i
 
       -- ---- a new reading: the tag is free once it is cleared
       pub after-update : (reading : ℕ) → tag < s .tags → let z = runOn (updateProgram s c now tag reading) f in
-          After s now (logged now tag (some (newPayload reading)) (logged now tag none log)) (bookUpdate now tag k) (z .0) (z .1)
+          After s now (logged now tag (some (newPayload reading now)) (logged now tag none log)) (bookUpdate now tag k) (z .0) (z .1)
       unfolding updateProgram
       after-update reading known =
           let y = runOn (clearTag s c now tag) f in

@@ -88,9 +88,9 @@ never-shows {clock} {log} s tag reading t i later absent =
     state-last (log ++ (Set s tag reading ∷ [])) (Clear s tag) t ∙ ap (λ (r : List Row). tells t r (Clear s tag)) (state-last log (Set s tag reading) t) ∙ both
   where
     both : tells t (tells t (stateAt log t) (Set s tag reading)) (Clear s tag) ≡ stateAt log t
-    both = by-test (leb s t) (λ b. leb s t ≡ b → cond b (without tag (cond b (andRow tag (newPayload reading) (stateAt log t)) (stateAt log t))) (cond b (andRow tag (newPayload reading) (stateAt log t)) (stateAt log t)) ≡ stateAt log t)
+    both = by-test (leb s t) (λ b. leb s t ≡ b → cond b (without tag (cond b (andRow tag (newPayload reading s) (stateAt log t)) (stateAt log t))) (cond b (andRow tag (newPayload reading s) (stateAt log t)) (stateAt log t)) ≡ stateAt log t)
         (λ e q.
         let by : Timed t log = timed-later (omega (arith, leb-true s t q)) i in
-        without-and tag (newPayload reading) (stateAt log t) (rw (so-far by) absent))
+        without-and tag (newPayload reading s) (stateAt log t) (rw (so-far by) absent))
         (λ e q. refl)
         refl

@@ -76,10 +76,10 @@ unfolding standing
 only-standing n = ((λ v. tt), λ _. ((λ v. tt), λ _. tt))
 
 only-read : (n k : ℕ) → Only headless (getPayload n k)
-only-read n k = ((λ v. tt), λ _. tt)
+only-read n k = ((λ v. tt), λ _. ((λ v. tt), λ _. tt))
 
 only-write : (n k : ℕ) (p : Payload) → Only headless (setPayload n k p)
-only-write n k p = (refl, tt)
+only-write n k p = ((refl, tt), λ _. (refl, tt))
 
 module _ (s : Settings) where
   only-put : (c : Cursor) (now tag : ℕ) (p : Payload) → Only headless (putRecord s c now tag p)
@@ -101,7 +101,7 @@ module _ (s : Settings) where
 
   only-place : (c : Cursor) (now tag reading : ℕ) → Only headless (place s c now tag reading)
   unfolding place
-  only-place c now tag reading = (only-room c now, λ d. only-put d now tag (newPayload reading))
+  only-place c now tag reading = (only-room c now, λ d. only-put d now tag (newPayload reading now))
 
   only-judge : (c : Cursor) (x now : ℕ) → Only headless (judge s c x now)
   unfolding judge close replace

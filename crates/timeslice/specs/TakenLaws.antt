@@ -43,6 +43,9 @@ rows-append ws given r r′ =
     rw (words-append r r′, ← e) (sets-append ws (rowLen * given) (rowWords r) (rowWords r′))
 
 -- ---- one slot
+add-two : (n : ℕ) → n + 2 ≡ suc (suc n)
+add-two n = omega arith
+
 and-false : (b : Bool) → (b && false) ≡ false
 and-false true = refl
 and-false false = refl
@@ -64,9 +67,10 @@ module _ (d : ℕ) (buffer : List ℕ) (given t : ℕ) (block : List ℕ) (k : �
 
     -- and one that is written.
     pub one-row : given < d → {tag : ℕ} {p : Payload} → tag ≡ slotWord block k tagWord → p ≡ payloadIn block k
-        → Takes d buffer given (rowOf t block k) (Rows (given + 1)) (set (set buffer (rowLen * given) tag) (rowLen * given + 1) (p .reading))
+        → Takes d buffer given (rowOf t block k) (Rows (given + 1))
+        (set (set (set buffer (rowLen * given) tag) (rowLen * given + 1) (p .reading)) (rowLen * given + 2) (p .since))
     unfolding rowOf
-    one-row f p q = rw (le-leb _ t (rw e at g), lt-ltb t _ (rw e′ at h), p, q, add-one (rowLen * given))
+    one-row f p q = rw (le-leb _ t (rw e at g), lt-ltb t _ (rw e′ at h), p, q, add-one (rowLen * given), add-two (rowLen * given))
         (all {now = given + 1} (omega arith) (omega arith) refl)
 
 -- ---- the slots so far, and one more

@@ -33,6 +33,7 @@ fn take_row(block: &[u32], k: u32, t: u32, s: Settings, rows: &mut [u32], given:
     let told = payload::in_slot(block, k);
     rows[at] = tag;
     rows[at + 1] = told.reading;
+    rows[at + 2] = told.since;
     Took::Rows(given + 1)
 }
 

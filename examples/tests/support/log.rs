@@ -1,16 +1,19 @@
 //! A plain log of the changes that a program acknowledged: what it must know after a restart, found from a list alone.
 use super::Rng;
 use register::{Entry, OPEN};
-use std::collections::BTreeMap;
+use std::collections::{BTreeMap, BTreeSet};
 use std::path::Path;
 
 /// The tags that the examples' settings give.
 const TAGS: u32 = 64;
 
+/// What stands, by tag: its reading, and the second of its last set or new reading.
+type State = BTreeMap<u32, (i32, u32)>;
+
 #[derive(Clone, Default)]
 pub struct Log {
     changes: Vec<(u32, u32, Option<i32>)>,
-    standing: BTreeMap<u32, i32>,
+    standing: BTreeSet<u32>,
     pub clock: u32,
     /// Entries of which the program told an answer, and those that it accepted.
     pub entries: u64,
@@ -28,7 +31,7 @@ impl Log {
             Entry::Advance { second } => (second, None),
             _ => unreachable!("no command starts a register"),
         };
-        let fits = change.is_none_or(|(tag, _, stands)| tag < TAGS && self.standing.contains_key(&tag) == stands);
+        let fits = change.is_none_or(|(tag, _, stands)| tag < TAGS && self.standing.contains(&tag) == stands);
         if second == OPEN || second < self.clock || !fits {
             return false;
         }
@@ -37,7 +40,7 @@ impl Log {
         if let Some((tag, reading, _)) = change {
             self.changes.push((second, tag, reading));
             match reading {
-                Some(reading) => self.standing.insert(tag, reading),
+                Some(_) => self.standing.insert(tag),
                 None => self.standing.remove(&tag),
             };
         }
@@ -45,11 +48,11 @@ impl Log {
     }
 
     /// What stood at a second; none if that is later than the clock.
-    fn state(&self, second: u32) -> Option<BTreeMap<u32, i32>> {
-        let mut state = BTreeMap::new();
-        for &(_, tag, reading) in self.changes.iter().take_while(|change| change.0 <= second) {
+    fn state(&self, second: u32) -> Option<State> {
+        let mut state = State::new();
+        for &(since, tag, reading) in self.changes.iter().take_while(|change| change.0 <= second) {
             match reading {
-                Some(reading) => state.insert(tag, reading),
+                Some(reading) => state.insert(tag, (reading, since)),
                 None => state.remove(&tag),
             };
         }
@@ -60,7 +63,7 @@ impl Log {
     pub fn draw(&self, rng: &mut Rng) -> Entry {
         let second = if rng.chance(1, 20) { self.clock.saturating_sub(1) } else { self.clock + rng.below(3) };
         let reading = rng.word().cast_signed();
-        let standing: Vec<u32> = self.standing.keys().copied().collect();
+        let standing: Vec<u32> = self.standing.iter().copied().collect();
         let tag = if standing.is_empty() || rng.chance(1, 20) { rng.below(TAGS + 6) } else { rng.pick(&standing) };
         match rng.below(20) {
             0 => Entry::Advance { second },
@@ -105,7 +108,7 @@ pub fn tally(line: &str) -> (u64, u64) {
 }
 
 /// The answers to looks: rows, or none where the second is late.
-fn looked(text: &str) -> Vec<Option<BTreeMap<u32, i32>>> {
+fn looked(text: &str) -> Vec<Option<State>> {
     let mut lines = text.lines();
     let mut answers = Vec::new();
     while let Some(line) = lines.next() {
@@ -115,15 +118,16 @@ fn looked(text: &str) -> Vec<Option<BTreeMap<u32, i32>>> {
         }
         let (_, count) = line.strip_prefix("stood at ").and_then(|rest| rest.split_once(": ")).expect("a look's line");
         let count: usize = count.parse().expect("a number");
-        let rows: BTreeMap<u32, i32> = lines.by_ref().take(count).map(row).collect();
+        let rows: State = lines.by_ref().take(count).map(row).collect();
         assert_eq!(rows.len(), count, "a tag comes twice, or a row is missing");
         answers.push(Some(rows));
     }
     answers
 }
 
-fn row(line: &str) -> (u32, i32) {
-    let numbers = line.strip_prefix("tag ").and_then(|rest| rest.strip_suffix(" daN"));
-    let (tag, reading) = numbers.and_then(|rest| rest.split_once(": ")).expect("a row's line");
-    (tag.parse().expect("a tag"), reading.parse().expect("a reading"))
+fn row(line: &str) -> (u32, (i32, u32)) {
+    let numbers = line.strip_prefix("tag ").and_then(|rest| rest.split_once(": "));
+    let (tag, rest) = numbers.expect("a row's line");
+    let (reading, since) = rest.split_once(" daN since ").expect("a row's line");
+    (tag.parse().expect("a tag"), (reading.parse().expect("a reading"), since.parse().expect("a second")))
 }

@@ -1,6 +1,6 @@
 //! What the proved register is tested against and measured with.
 //!
-//! [`Independent`] is a second implementation, written from document 01 alone. `Proved` is the proved one: the calls
+//! [`Independent`] is a second implementation, written from the papers alone. `Proved` is the proved one: the calls
 //! of the crate `register`, by plain numbers, so that any words, lengths and settings can be passed to either. Both keep
 //! everything in a store of 32-bit words that the caller lends; docs/LAYOUT.md has its word map. Types and refusals
 //! here are this crate's own: without the feature `proved` nothing of the crate `register` takes part.
@@ -18,7 +18,7 @@
 //! let (mut rows, mut list) = (vec![0; settings.row_words()], vec![0; 8]);
 //! let answer = Independent::look_back(&store, 11, &mut rows, &mut list)?;
 //! assert_eq!((answer.rows, answer.blocks), (1, 1));
-//! assert_eq!((rows[0], rows[1] as i32), (3, -25));
+//! assert_eq!((rows[0], rows[1] as i32, rows[2]), (3, -25, 10)); // since second 10
 //! # Ok::<(), Refusal>(())
 //! ```
 mod answer;
@@ -51,7 +51,8 @@ pub trait Calls {
     fn update(store: &mut [u32], second: u32, tag: u32, reading: i32) -> Result<(), Refusal>;
     /// Moves the clock.
     fn advance(store: &mut [u32], second: u32) -> Result<(), Refusal>;
-    /// What stood at a second. `rows` (at least 2 D words) gets tag and reading of each row, `list` (at least B words)
-    /// the numbers of the blocks read; words after those keep their contents.
+    /// What stood at a second. `rows` (at least 3 D words) gets tag, reading and since of each row, which is the second
+    /// of the condition's last set or new reading; `list` (at least B words) gets the numbers of the blocks read. Words
+    /// after those keep their contents.
     fn look_back(store: &[u32], second: u32, rows: &mut [u32], list: &mut [u32]) -> Result<Answer, Refusal>;
 }

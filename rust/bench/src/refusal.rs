@@ -28,7 +28,7 @@ impl Refusal {
     pub const STANDING: Refusal = Refusal::numbered(9);
     /// A clear or new reading of a tag that does not stand.
     pub const NOT_STANDING: Refusal = Refusal::numbered(10);
-    /// The row buffer has fewer than 2 D words or the list fewer than B.
+    /// The row buffer has fewer than 3 D words or the list fewer than B.
     pub const SHORT_BUFFER: Refusal = Refusal::numbered(11);
     /// A link, place or tag that the call needs is unsound. After an honest history it never comes.
     pub const UNSOUND: Refusal = Refusal::numbered(12);

@@ -3,11 +3,11 @@
 /// Words of a block's head.
 pub const BLOCK_HEAD: usize = 8;
 
-/// Words of a record: tag, reading, from, to.
-pub const RECORD: usize = 4;
+/// Words of a record: tag, reading, from, to, since.
+pub const RECORD: usize = 5;
 
-/// Words of a row that a look-back gives: tag, reading.
-pub const ROW: usize = 2;
+/// Words of a row that a look-back gives: tag, reading, since.
+pub const ROW: usize = 3;
 
 /// b, q, B and D of document 01. A start turns away those outside their limits.
 #[derive(Clone, Copy, Debug, PartialEq, Eq)]

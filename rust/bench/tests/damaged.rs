@@ -1,9 +1,11 @@
 //! Every call on damaged stores, run by the proved and by the independent register: all words are the same.
 mod common;
-use bench::{Calls, Proved, Settings};
+use bench::{Answer, Calls, Independent, OPEN, Proved, ROW, Settings};
 use common::damage::{Map, drawn_store, edge, one_word};
 use common::history::{History, TEMPERS};
 use common::{Call, Pair, Rng, Totals, settings};
+use std::sync::atomic::AtomicU32;
+use std::sync::atomic::Ordering::Relaxed;
 
 const SETTINGS: [(u32, u32, u32, u32); 14] = [
     (2, 1, 6, 5),
@@ -186,4 +188,77 @@ fn changed_words_of_many_blocks() {
         }
     }
     println!("damaged, many blocks: {}", pair.totals);
+}
+
+/// A look-back at the clock: its answer, and both buffers whole, with words to spare.
+fn look_at_clock<R: Calls>(s: Settings, store: &[u32]) -> (Answer, Vec<u32>, Vec<u32>) {
+    let (mut rows, mut list) = (vec![9; s.row_words() + 4], vec![9; s.blocks as usize + 4]);
+    let answer = R::look_back(store, store[6], &mut rows, &mut list).expect("no call tests since");
+    assert!(rows[ROW * answer.rows as usize..].iter().all(|&word| word == 9), "words after the rows");
+    assert!(list[answer.blocks as usize..].iter().all(|&word| word == 9), "words after the list");
+    (answer, rows, list)
+}
+
+/// Block, slot and since's word of a tag's standing record, by the directory; none if it does not stand.
+fn standing_record(s: Settings, store: &[u32], tag: u32) -> Option<(u32, u32, usize)> {
+    let map = Map { settings: s };
+    let place = store[map.directory() + tag as usize].checked_sub(1)?;
+    let (n, k) = (place / s.block + 1, place % s.block);
+    Some((n, k, map.slot(n, k, 4)))
+}
+
+/// The look-back at the clock is that of the honest store but for the damaged word in its row, by both registers.
+fn shown_as_it_is(s: Settings, honest: &[u32], damaged: &[u32], tag: u32, word: u32) {
+    let (answer, mut rows, list) = look_at_clock::<Proved>(s, honest);
+    let row = rows.chunks(ROW).take(answer.rows as usize).position(|row| row[0] == tag).expect("the tag stands");
+    rows[ROW * row + 2] = word;
+    let expected = (answer, rows, list);
+    assert!(look_at_clock::<Proved>(s, damaged) == expected, "proved: since {word} of tag {tag}");
+    assert!(look_at_clock::<Independent>(s, damaged) == expected, "independent: since {word} of tag {tag}");
+}
+
+/// Clears the other tags of the record's block until it closes and its record is copied; false if a clear is refused.
+fn close_its_block(s: Settings, pair: &mut Pair, tag: u32, rng: &mut Rng) -> bool {
+    let (n, _, first) = standing_record(s, pair.store(), tag).expect("the tag stands");
+    let others: Vec<u32> = (0..s.tags)
+        .filter(|&other| other != tag && standing_record(s, pair.store(), other).is_some_and(|(m, ..)| m == n))
+        .collect();
+    for other in others {
+        let clear = Call::Clear { second: pair.store()[6], tag: other };
+        if pair.call(clear, rng).is_err() {
+            return false;
+        }
+        if standing_record(s, pair.store(), tag).is_some_and(|(.., at)| at != first) {
+            return true;
+        }
+    }
+    false
+}
+
+/// No call tests since: a damaged one is shown as it is and carried along by copies, and nothing else differs.
+#[test]
+fn damaged_since() {
+    let (shown, copied) = (AtomicU32::new(0), AtomicU32::new(0));
+    run("since", 4_000_000..4_020_000, |s, pair, rng| {
+        let (honest, tag) = (honest_store(s, rng), rng.below(s.tags));
+        let Some((.., at)) = standing_record(s, &honest, tag) else { return };
+        let (clock, since) = (honest[6], honest[at]);
+        let mut plain = Pair::new(&honest);
+        let closes = close_its_block(s, &mut plain, tag, rng);
+        for word in [OPEN, 0, clock + 1, clock + 1000] {
+            pair.reset(&honest);
+            pair.poke(at, word);
+            shown_as_it_is(s, &honest, pair.store(), tag, word);
+            shown.fetch_add(1, Relaxed);
+            assert_eq!(close_its_block(s, pair, tag, rng), closes);
+            let (.., now_at) = standing_record(s, pair.store(), tag).expect("it was not cleared");
+            assert_eq!((pair.store()[at], pair.store()[now_at], closes), (word, word, now_at != at));
+            shown_as_it_is(s, plain.store(), pair.store(), tag, word);
+            let words = plain.store().iter().zip(pair.store());
+            assert!(words.filter(|(a, b)| a != b).all(|(&a, &b)| (a, b) == (since, word)), "another word differs");
+            copied.fetch_add(u32::from(closes), Relaxed);
+        }
+    });
+    println!("damaged, since: {shown:?} shown, {copied:?} carried along by a copy");
+    assert!(shown.into_inner() > 1000 && copied.into_inner() > 1000);
 }

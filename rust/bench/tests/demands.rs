@@ -4,7 +4,7 @@ use bench::{Answer, Calls, OPEN, Proved, ROW, Refusal, Settings};
 use common::book::Book;
 use common::damage::Map;
 use common::history::{History, TEMPERS, Temper};
-use common::log::Log;
+use common::log::{Log, Standing};
 use common::pair::change;
 use common::{Call, Rng, settings};
 use std::collections::BTreeMap;
@@ -106,10 +106,11 @@ impl Witness {
         }
     }
 
-    /// Demand 2: each condition of the log at t once, with its reading, and no other.
+    /// Demand 2: each condition of the log at t once, with its reading and since, and no other.
     fn check_rows(&self, t: u32, answer: Answer, rows: &[u32]) {
-        let told: BTreeMap<u32, i32> =
-            rows.chunks(ROW).take(answer.rows as usize).map(|row| (row[0], row[1] as i32)).collect();
+        let words = rows.as_chunks::<ROW>().0.iter().take(answer.rows as usize);
+        let standing = words.map(|&[tag, reading, since]| (tag, Standing { reading: reading as i32, since }));
+        let told: BTreeMap<u32, Standing> = standing.collect();
         assert_eq!(told.len(), answer.rows as usize, "a tag twice at {t}");
         assert!(told == self.log.state(t), "rows at {t}");
         assert!(rows[ROW * answer.rows as usize..].iter().all(|&word| word == 9), "words after the rows at {t}");
@@ -200,12 +201,37 @@ fn log_and_book() {
     println!("demands: {changed} accepted changes, {looked} answered look-backs");
 }
 
+/// A condition that is copied from block to block stands since its last set or new reading, also if that was equal.
+#[test]
+fn since_of_copies() {
+    let s = settings(4, 2, 60, 16);
+    let (kept, other) = (3, 5);
+    let place = Map { settings: s }.directory() + kept as usize;
+    let (mut store, mut rows, mut list) = (vec![0; s.words()], vec![0; s.row_words()], vec![0; s.blocks as usize]);
+    Proved::start(&mut store, s).unwrap();
+    Proved::set(&mut store, 1, kept, 25).unwrap();
+    let (mut since, mut copies) = (1, 0);
+    for second in 2..80 {
+        let before = store[place];
+        Proved::set(&mut store, second, other, 0).unwrap();
+        copies += u32::from(store[place] != before);
+        Proved::clear(&mut store, second, other).unwrap();
+        if second == 40 {
+            Proved::update(&mut store, second, kept, 25).unwrap();
+            since = second;
+        }
+        let answer = Proved::look_back(&store, second, &mut rows, &mut list).unwrap();
+        assert_eq!((answer.rows, &rows[..ROW]), (1, &[kept, 25, since][..]), "at {second}");
+    }
+    assert!(copies > 20, "it was copied {copies} times");
+}
+
 /// Document 01's printed case, as the safe calls give it.
 #[test]
 fn printed_case() {
     let s = settings(4, 2, 8, 16);
-    let mut store = vec![0; 4592];
-    assert_eq!(Proved::start(&mut store[..4591], s), Err(Refusal::SHORT_STORE));
+    let mut store = vec![0; 4624];
+    assert_eq!(Proved::start(&mut store[..4623], s), Err(Refusal::SHORT_STORE));
     Proved::start(&mut store, s).unwrap();
     for (second, tag, reading) in [(1, 1, 25), (2, 2, -25), (3, 3, 5), (4, 4, 140), (5, 5, 0)] {
         Proved::set(&mut store, second, tag, reading).unwrap();
@@ -213,9 +239,15 @@ fn printed_case() {
     for (second, tag) in [(6, 2), (7, 3), (8, 1)] {
         Proved::clear(&mut store, second, tag).unwrap();
     }
-    let (mut rows, mut list) = (vec![0; 32], vec![0; 8]);
+    let (mut rows, mut list) = (vec![0; 48], vec![0; 8]);
+    assert_eq!(Proved::look_back(&store, 7, &mut rows[..47], &mut list), Err(Refusal::SHORT_BUFFER));
     let answer = Proved::look_back(&store, 7, &mut rows, &mut list).unwrap();
     assert_eq!(answer, Answer { rows: 3, pages: 1, blocks: 2, page: [0, OPEN, OPEN] });
-    assert_eq!((&rows[..6], &list[..2]), (&[5, 0, 1, 25, 4, 140][..], &[2, 1][..]));
+    assert_eq!((&rows[..9], &list[..2]), (&[5, 0, 5, 1, 25, 1, 4, 140, 4][..], &[2, 1][..]));
+    let answer = Proved::look_back(&store, 8, &mut rows, &mut list).unwrap();
+    assert_eq!((answer.rows, &rows[..6]), (2, &[5, 0, 5, 4, 140, 4][..])); // tag 4 was copied at 8, and stands since 4
     assert_eq!(Proved::look_back(&store, 9, &mut rows, &mut list), Err(Refusal::LATE));
+    Proved::update(&mut store, 9, 4, -7).unwrap();
+    let answer = Proved::look_back(&store, 9, &mut rows, &mut list).unwrap();
+    assert_eq!((answer.rows, &rows[3..6]), (2, &[4, OPEN - 6, 9][..])); // tag, reading and since, no two of them alike
 }

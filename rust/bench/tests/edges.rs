@@ -1,6 +1,6 @@
 //! Short stores, short buffers and arguments at their limits, run by both registers: all words are the same.
 mod common;
-use bench::{Calls, OPEN, Proved, Settings};
+use bench::{Calls, Independent, OPEN, Proved, Refusal, Settings};
 use common::damage::Map;
 use common::history::{History, TEMPERS};
 use common::{Call, Pair, Rng, settings};
@@ -55,6 +55,39 @@ fn store_lengths() {
         }
     }
     println!("edges, store lengths: {}", pair.totals);
+}
+
+/// Row buffers of 3 D words are long enough, and so are longer ones; shorter ones are refused and left as they were.
+#[test]
+fn row_buffer_lengths() {
+    fn asked<R: Calls>(s: Settings, store: &[u32], rows: usize, list: usize) -> Option<u32> {
+        let (mut rows, mut list) = (vec![9; rows], vec![9; list]);
+        match R::look_back(store, 7, &mut rows, &mut list) {
+            Ok(answer) => {
+                assert_eq!((&rows[..9], &list[..2]), (&[5, 0, 5, 1, 25, 1, 4, 140, 4][..], &[2, 1][..]));
+                assert!(rows[9..].iter().chain(&list[2..]).all(|&word| word == 9), "words after the rows of {s:?}");
+                Some(answer.rows)
+            }
+            Err(refusal) => {
+                assert_eq!(refusal, Refusal::SHORT_BUFFER);
+                assert!(rows.iter().chain(&list).all(|&word| word == 9), "refused, and wrote");
+                None
+            }
+        }
+    }
+    let (s, printed) = printed_store();
+    let (rows, list) = (3 * s.tags as usize, s.blocks as usize);
+    for (rows, list, told) in [
+        (rows, list, Some(3)),
+        (rows + 1, list + 1, Some(3)),
+        (rows - 1, list, None),
+        (2 * s.tags as usize, list, None), // as long as a row had two words
+        (0, list, None),
+        (rows, list - 1, None),
+    ] {
+        assert_eq!(asked::<Proved>(s, &printed, rows, list), told, "proved, {rows} and {list} words");
+        assert_eq!(asked::<Independent>(s, &printed, rows, list), told, "independent, {rows} and {list} words");
+    }
 }
 
 /// Each head word at each edge, with each call.
@@ -169,7 +202,7 @@ fn deep_visits() {
             }
         }
         pair.reset(&store);
-        pair.call(Call::LookBack { second: 0, rows: 32, list: 4096 }, &mut rng).unwrap();
+        pair.call(Call::LookBack { second: 0, rows: s.row_words(), list: 4096 }, &mut rng).unwrap();
         assert_eq!(pair.told.answer[2], 4096);
     }
     println!("edges, deep visits: {}", pair.totals);

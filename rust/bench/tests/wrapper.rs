@@ -81,7 +81,8 @@ impl Three {
 
 /// A look-back's rows, reading list, pages and counts are those of the answer and its words.
 fn same<W: AsRef<[u32]>>(answer: Answer, row_words: &[u32], list: &[u32], told: &LookBack<W>) {
-    let rows = row_words.chunks(ROW).map(|row| Row { tag: row[0], reading: row[1] as i32 }).take(answer.rows as usize);
+    let words = row_words.as_chunks::<ROW>().0.iter().take(answer.rows as usize);
+    let rows = words.map(|&[tag, reading, since]| Row { tag, reading: reading as i32, since });
     assert!(told.rows().eq(rows.clone()));
     assert!(told.rows().rev().eq(rows.collect::<Vec<_>>().into_iter().rev()));
     assert_eq!(told.rows().len(), answer.rows as usize);

@@ -12,7 +12,7 @@
 //! ```
 //! use register::{Refusal, calls};
 //!
-//! let mut store = [0; 4592];
+//! let mut store = [0; 4624];
 //! assert_eq!(calls::start(&mut store, 4, 2, 8, 16), 0);
 //! assert_eq!(calls::clear(&mut store, 1, 3), 10);
 //! assert_eq!(Refusal::result_of(10), Err(Refusal::NotStanding));
@@ -56,7 +56,7 @@ pub fn start(store: &mut [u32], block: u32, useful: u32, blocks: u32, tags: u32)
     unsafe { export::register_start(store.as_mut_ptr(), store.len(), block, useful, blocks, tags) }
 }
 
-/// Sets a tag with a reading in daN.
+/// Sets a tag with a reading in daN. Its since is this second.
 /// Refusals 2 to 6, 8, 9, 12, 13.
 #[inline]
 #[must_use = "0 is accepted, any other number a refusal"]
@@ -74,7 +74,8 @@ pub fn clear(store: &mut [u32], second: u32, tag: u32) -> u32 {
     unsafe { export::register_clear(store.as_mut_ptr(), store.len(), second, tag) }
 }
 
-/// Gives a standing tag a new reading: a clear and a set at the same second, also if the reading is equal.
+/// Gives a standing tag a new reading: a clear and a set at the same second. Its since becomes this second, also if the
+/// reading is equal.
 /// Refusals 2 to 6, 8, 10, 12, 13.
 #[inline]
 #[must_use = "0 is accepted, any other number a refusal"]
@@ -104,9 +105,9 @@ pub fn apply(store: &mut [u32], entry: Entry) -> u32 {
     }
 }
 
-/// What stood at a second. `rows` gets tag and reading of each row, `list` the numbers of the blocks listed, `answer` the
-/// numbers of rows, pages read and blocks listed and the page passed on each level, [`OPEN`](crate::OPEN) if none.
-/// Words after these keep their contents, and a refusal leaves `answer`.
+/// What stood at a second. `rows` gets tag, reading and since of each row ([`Row`](crate::Row)), `list` the numbers of
+/// the blocks listed, `answer` the numbers of rows, pages read and blocks listed and the page passed on each level,
+/// [`OPEN`](crate::OPEN) if none. Words after these keep their contents, and a refusal leaves `answer`.
 /// Refusals 2 to 5, 7, 11, 12.
 #[inline]
 #[must_use = "0 is accepted, any other number a refusal"]

@@ -1,13 +1,14 @@
 //! The look-back register of a rope tension monitor, proved, for programs in Rust.
 //!
 //! A register keeps *conditions* (a tag with a reading: a tension outside its band, a sheave off, a gauge in doubt) as
-//! they are set, cleared and given new readings. A look-back tells what stood at any past second, and lists at
-//! most twice as many blocks as were open then. The code behind this crate, `libregister.a`, is written in Rattle,
-//! and a checker has proved that each call does what its definition says on whatever words it is lent. This wrapper
-//! is not proved: it passes slices to that code and gives its answers Rust's types.
+//! they are set, cleared and given new readings. A look-back tells what stood at any past second and since when, and
+//! lists at most twice as many blocks as were open then. The code behind this crate, `libregister.a`, is written in
+//! Rattle, and a checker has proved that each call does what its definition says on whatever words it is lent. This
+//! wrapper is not proved: it passes slices to that code and gives its answers Rust's types.
 //!
 //! Everything lives in 32-bit words that the caller lends ([`Register`]; [`Reader`] if they are lent to be read only)
-//! or, with the feature `alloc`, in a register's own (`OwnedRegister`). Document 01's printed case:
+//! or, with the feature `alloc`, in a register's own (`OwnedRegister`). Document 01's printed case, and a new reading
+//! after it:
 //!
 //! ```
 //! use register::{Refusal, Register, Row, Settings};
@@ -25,10 +26,14 @@
 //!
 //! let (mut rows, mut list) = (vec![0; settings.row_words()], vec![0; settings.list_words()]);
 //! let told = register.look_back(7, &mut rows, &mut list)?;
-//! let stood = [Row { tag: 5, reading: 0 }, Row { tag: 1, reading: 25 }, Row { tag: 4, reading: 140 }];
+//! let stood = [(5, 0, 5), (1, 25, 1), (4, 140, 4)].map(|(tag, reading, since)| Row { tag, reading, since });
 //! assert!(told.rows().eq(stood));
 //! assert_eq!(told.blocks(), [2, 1]);
 //! assert_eq!(register.look_back(9, &mut rows, &mut list), Err(Refusal::Late));
+//!
+//! register.update(9, 4, 150)?;
+//! let told = register.look_back(9, &mut rows, &mut list)?;
+//! assert!(told.rows().eq([Row { tag: 5, reading: 0, since: 5 }, Row { tag: 4, reading: 150, since: 9 }]));
 //! # Ok::<(), Refusal>(())
 //! ```
 //!
@@ -36,6 +41,22 @@
 //!
 //! A store can be rebuilt from a journal of the calls that made it: [`Entry`], [`Register::rebuild`]. The repository's
 //! `examples/` has a program that so loses no change that it has acknowledged, wherever it is stopped.
+//!
+//! # Versions
+//!
+//! A store belongs to one version of the library. Before 0.3.0 a record had no word for since: a store of such a
+//! version is shorter, and its records lie elsewhere, but its head has the same mark. In its own length it is refused
+//! with [`Refusal::ShortStore`]; with words to spare it may be taken for one of this version, and is misread then.
+//! An older library takes a store of this version for its own: no refusal need tell, it misreads it, and a change
+//! spoils it.
+//!
+//! A store is carried over by its whole journal, from the first start on, which is the same in all versions (a copy of
+//! the store with the rest of the journal will not do). Leave out the entries that were refused then: a start that
+//! found its store too short might now be accepted. Lend the words that the largest start left needs now, and
+//! [rebuild](Register::rebuild): both numbers of the [`Tally`] must be that of the entries left, else it did not work.
+//! The repository's README.md, "Versions", has more, also for those who have no whole journal.
+//!
+//! A [`Row`] has a third word, `since`, from 0.3.0 on; so has a row in the words that [`calls::look_back`] fills.
 //!
 //! # The archive
 //!

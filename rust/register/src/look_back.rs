@@ -11,6 +11,9 @@ pub struct Row {
     pub tag: u32,
     /// Its reading then, in daN.
     pub reading: i32,
+    /// The second of its last set or new reading, however often the register has copied its record. An equal reading
+    /// counts too: if this is to tell for how long, send a new reading only when it changed.
+    pub since: u32,
 }
 
 /// The three numbers of a look-back.
@@ -40,11 +43,11 @@ pub struct Counts {
 ///
 /// let (mut rows, mut list) = (vec![0; settings.row_words()], vec![0; settings.list_words()]);
 /// let told = register.look_back(11, &mut rows, &mut list)?;
-/// assert!(told.rows().eq([Row { tag: 3, reading: -25 }, Row { tag: 5, reading: 140 }]));
+/// assert!(told.rows().eq([Row { tag: 3, reading: -25, since: 10 }, Row { tag: 5, reading: 140, since: 11 }]));
 /// assert_eq!(told.blocks(), [1]);
 /// assert_eq!(told.pages(), [Some(0), None, None]);
 /// for row in told.rows() {
-///     println!("tag {} had {} daN", row.tag, row.reading);
+///     println!("tag {} had {} daN since {}", row.tag, row.reading, row.since);
 /// }
 /// # Ok::<(), register::Refusal>(())
 /// ```
@@ -82,7 +85,7 @@ impl<W> LookBack<W> {
 impl<W: AsRef<[u32]>> LookBack<W> {
     /// The rows, in the order in which the register found them; no tag comes twice after a history of calls.
     pub fn rows(&self) -> Rows<'_> {
-        Rows { pairs: self.rows.as_ref().as_chunks().0.iter() }
+        Rows { words: self.rows.as_ref().as_chunks().0.iter() }
     }
 
     /// The reading list: the numbers, from 1, of the blocks that were read, in their order.
@@ -96,28 +99,28 @@ impl<W: AsRef<[u32]>> LookBack<W> {
 #[derive(Clone, Debug)]
 #[must_use = "iterators are lazy and do nothing unless consumed"]
 pub struct Rows<'l> {
-    pairs: slice::Iter<'l, [u32; ROW_WORDS]>,
+    words: slice::Iter<'l, [u32; ROW_WORDS]>,
 }
 
-fn row([tag, reading]: [u32; ROW_WORDS]) -> Row {
-    Row { tag, reading: reading.cast_signed() }
+fn row([tag, reading, since]: [u32; ROW_WORDS]) -> Row {
+    Row { tag, reading: reading.cast_signed(), since }
 }
 
 impl Iterator for Rows<'_> {
     type Item = Row;
 
     fn next(&mut self) -> Option<Row> {
-        self.pairs.next().copied().map(row)
+        self.words.next().copied().map(row)
     }
 
     fn size_hint(&self) -> (usize, Option<usize>) {
-        self.pairs.size_hint()
+        self.words.size_hint()
     }
 }
 
 impl DoubleEndedIterator for Rows<'_> {
     fn next_back(&mut self) -> Option<Row> {
-        self.pairs.next_back().copied().map(row)
+        self.words.next_back().copied().map(row)
     }
 }
 

@@ -13,12 +13,12 @@ use core::fmt;
 /// register.set(10, 3, -25)?;
 /// register.clear(12, 3)?;
 /// let told: Vec<Row> = register.look_back(11)?.rows().collect();
-/// assert_eq!(told, [Row { tag: 3, reading: -25 }]);
+/// assert_eq!(told, [Row { tag: 3, reading: -25, since: 10 }]);
 ///
 /// let saved: Vec<u32> = register.into_words(); // to a file, say, and from it
 /// let register = OwnedRegister::open(saved)?;
 /// assert_eq!(register.clock(), 12);
-/// assert_eq!(OwnedRegister::open(vec![0; 4592]).unwrap_err(), Refusal::Head); // never started
+/// assert_eq!(OwnedRegister::open(vec![0; 4624]).unwrap_err(), Refusal::Head); // never started
 /// # Ok::<(), Refusal>(())
 /// ```
 #[derive(Clone)]
@@ -39,8 +39,8 @@ impl OwnedRegister {
         OwnedRegister { store }
     }
 
-    /// Takes words that a start, and perhaps changes after it, left. If they are refused they are dropped: who may
-    /// need them then opens a [`Reader`] over them first.
+    /// Takes words that a start, and perhaps changes after it, left, by this [version](crate#versions). If they are
+    /// refused they are dropped: who may need them then opens a [`Reader`] over them first.
     ///
     /// # Errors
     ///

@@ -34,7 +34,8 @@ pub struct Reader<'a> {
 }
 
 impl<'a> Reader<'a> {
-    /// Opens a store that a start, and perhaps changes after it, left. The words beyond its layout are not looked at.
+    /// Opens a store that a start, and perhaps changes after it, left, by this [version](crate#versions). The words
+    /// beyond its layout are not looked at.
     ///
     /// The register itself tests the head: it is asked for a look-back at [`OPEN`], which is no second. That call is
     /// always refused and so writes nothing, and since the refusals have an order, it is refused with

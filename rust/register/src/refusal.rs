@@ -26,7 +26,7 @@ pub enum Refusal {
     /// or take an older copy of it.
     Head = 3,
     /// The store is shorter than the layout of its settings: lend [`Settings::words`](crate::Settings::words) words,
-    /// or all of a store that was cut short.
+    /// or all of a store that was cut short. One of an older [version](crate#versions) is shorter, too.
     ShortStore = 4,
     /// The time is [`OPEN`](crate::OPEN), which is no second: pass a smaller one.
     TimeOpen = 5,
@@ -47,7 +47,8 @@ pub enum Refusal {
     /// A link, place or tag that the call needs is unsound: something else wrote the store. It is proved that this
     /// never comes after calls alone. Take an older copy of the store, or rebuild it from a journal.
     Unsound = 12,
-    /// The change would open a block and none is left: keep this store for look-backs, and start another.
+    /// The change would open a block and none is left: keep this store for look-backs, and start another. The
+    /// repository's README.md, "When blocks run out", tells how.
     OutOfBlocks = 13,
 }
 

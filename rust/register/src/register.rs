@@ -39,8 +39,8 @@ impl<'a> Register<'a> {
         Ok(Register { store })
     }
 
-    /// Opens a store that a start, and perhaps changes after it, left; nothing is written. [`Reader::open`] says how
-    /// the head is tested.
+    /// Opens a store that a start, and perhaps changes after it, left, by this [version](crate#versions); nothing is
+    /// written. [`Reader::open`] says how the head is tested.
     ///
     /// # Errors
     ///
@@ -50,7 +50,7 @@ impl<'a> Register<'a> {
         Ok(Register { store })
     }
 
-    /// Sets a tag, 0 to D − 1, with a reading in daN.
+    /// Sets a tag, 0 to D − 1, with a reading in daN. Its [since](crate::Row::since) is this second.
     ///
     /// # Errors
     ///
@@ -71,7 +71,8 @@ impl<'a> Register<'a> {
         Refusal::result_of(calls::clear(self.store, second, tag))
     }
 
-    /// Gives a standing tag a new reading: a clear and a set at the same second, also if the reading is equal.
+    /// Gives a standing tag a new reading: a clear and a set at the same second. Its [since](crate::Row::since) becomes
+    /// this second, also if the reading is equal.
     ///
     /// # Errors
     ///

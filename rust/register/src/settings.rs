@@ -1,10 +1,10 @@
 //! The settings of a register, and the lengths that follow from them.
 use crate::Refusal;
 
-/// Words of a block's head; of a record: tag, reading, from, to; and of a row: tag, reading.
+/// Words of a block's head; of a record: tag, reading, from, to, since; and of a row: tag, reading, since.
 const BLOCK_HEAD_WORDS: usize = 8;
-const RECORD_WORDS: usize = 4;
-pub(crate) const ROW_WORDS: usize = 2;
+const RECORD_WORDS: usize = 5;
+pub(crate) const ROW_WORDS: usize = 3;
 
 /// What a start fixes: b, q, B and D of document 01, within their limits.
 ///
@@ -12,7 +12,7 @@ pub(crate) const ROW_WORDS: usize = 2;
 /// use register::{Refusal, Settings};
 ///
 /// let settings = Settings::new(4, 2, 8, 16)?;
-/// assert_eq!((settings.words(), settings.row_words(), settings.list_words()), (4592, 32, 8));
+/// assert_eq!((settings.words(), settings.row_words(), settings.list_words()), (4624, 48, 8));
 /// assert_eq!(Settings::new(3, 2, 8, 16), Err(Refusal::Settings)); // 2 × 2 is more than 3
 /// # Ok::<(), Refusal>(())
 /// ```
@@ -27,7 +27,7 @@ pub(crate) const ROW_WORDS: usize = 2;
 ///     Err(_) => panic!("settings outside their limits"),
 /// };
 /// static STORE: [u32; SETTINGS.words()] = [0; SETTINGS.words()];
-/// # assert_eq!(STORE.len(), 4592);
+/// # assert_eq!(STORE.len(), 4624);
 /// ```
 #[derive(Clone, Copy, Debug, PartialEq, Eq, Hash)]
 pub struct Settings {
@@ -37,8 +37,8 @@ pub struct Settings {
     pub(crate) tags: u32,
 }
 
-// The longest layout has some 1.1 million words; a `usize` of 16 bits could not count them.
-const _: () = assert!(usize::BITS >= 32, "a store may have 1,089,824 words, which this target cannot address");
+// The longest layout has some 1.4 million words; a `usize` of 16 bits could not count them.
+const _: () = assert!(usize::BITS >= 32, "a store may have 1,351,968 words, which this target cannot address");
 
 impl Settings {
     /// The fewest records in a block.
@@ -106,7 +106,7 @@ impl Settings {
         self.tags
     }
 
-    /// Words of a store: head, index, directory, blocks. At most 1,089,824, so that nothing overflows.
+    /// Words of a store: head, index, directory, blocks. At most 1,351,968, so that nothing overflows.
     #[must_use]
     pub const fn words(&self) -> usize {
         let block_words = BLOCK_HEAD_WORDS + RECORD_WORDS * self.block as usize;

@@ -49,6 +49,6 @@ fn example_of_the_header() {
     for dialect in DIALECTS {
         let program = compile(dialect, &[file.clone(), include().join("register_refusal.c")], "example");
         let ran = run(&program);
-        assert!(ran.status.success() && said(&ran) == "tag 3: -25 daN\n", "{dialect:?}: {}", said(&ran));
+        assert!(ran.status.success() && said(&ran) == "tag 3: -25 daN since 10\n", "{dialect:?}: {}", said(&ran));
     }
 }

@@ -5,14 +5,20 @@
 #define WORDS REGISTER_WORDS(4, 8, 16)
 #define CHECK(what) do { if (!(what)) return __LINE__; } while (0)
 
-static uint32_t store[WORDS], rows[32], list[8], answer[REGISTER_ANSWER_WORDS];
+static uint32_t store[WORDS], rows[48], list[8], answer[REGISTER_ANSWER_WORDS];
 
 static uint32_t look_back(uint32_t second) {
-    return register_look_back(store, WORDS, second, rows, 32, list, 8, answer);
+    return register_look_back(store, WORDS, second, rows, 48, list, 8, answer);
+}
+
+/* Whether row i has these words. */
+static int row(int i, uint32_t tag, int32_t reading, uint32_t since) {
+    return REGISTER_TAG_OF(rows, i) == tag && REGISTER_READING_OF(rows, i) == reading
+        && REGISTER_SINCE_OF(rows, i) == since;
 }
 
 static int change(void) {
-    CHECK(register_start(store, WORDS - 1, 4, 2, 8, 16) == REGISTER_SHORT_STORE);
+    CHECK(WORDS == 4624 && register_start(store, 4623, 4, 2, 8, 16) == REGISTER_SHORT_STORE);
     CHECK(register_start(store, WORDS, 3, 2, 8, 16) == REGISTER_SETTINGS);
     CHECK(register_start(store, WORDS, 4, 2, 8, 16) == REGISTER_ACCEPTED);
     CHECK(look_back(0) == 0 && answer[REGISTER_ROWS] == 0 && answer[REGISTER_PAGES] == 0);
@@ -31,11 +37,13 @@ static int look(void) {
     CHECK(look_back(7) == 0);
     CHECK(answer[REGISTER_ROWS] == 3 && answer[REGISTER_PAGES] == 1 && answer[REGISTER_BLOCKS] == 2);
     CHECK(answer[REGISTER_PAGE0] == 0 && answer[REGISTER_PAGE1] == REGISTER_OPEN && answer[REGISTER_PAGE2] == REGISTER_OPEN);
-    CHECK(rows[0] == 5 && rows[1] == 0 && rows[2] == 1 && rows[3] == 25 && rows[4] == 4 && rows[5] == 140);
+    CHECK(rows[0] == 5 && rows[1] == 0 && rows[2] == 5 && rows[3] == 1 && rows[4] == 25 && rows[5] == 1);
+    CHECK(row(0, 5, 0, 5) && row(1, 1, 25, 1) && row(2, 4, 140, 4));
     CHECK(list[0] == 2 && list[1] == 1);
     CHECK(look_back(3) == 0 && answer[REGISTER_ROWS] == 3 && answer[REGISTER_BLOCKS] == 1 && list[0] == 1);
-    CHECK(rows[0] == 1 && rows[2] == 2 && (int32_t)rows[3] == -25 && rows[4] == 3);
-    CHECK(look_back(8) == 0 && answer[REGISTER_ROWS] == 2 && rows[0] == 5 && rows[2] == 4);
+    CHECK(row(0, 1, 25, 1) && row(1, 2, -25, 2) && row(2, 3, 5, 3));
+    CHECK(look_back(8) == 0 && answer[REGISTER_ROWS] == 2 && row(0, 5, 0, 5));
+    CHECK(row(1, 4, 140, 4)); /* since 4, though its record was copied at 8 */
     CHECK(look_back(0) == 0 && answer[REGISTER_ROWS] == 0 && answer[REGISTER_BLOCKS] == 0);
     CHECK(look_back(9) == REGISTER_LATE);
     return 0;
@@ -48,10 +56,17 @@ static int turned_away(void) {
     CHECK(register_update(store, WORDS, 8, 1, 0) == REGISTER_NOT_STANDING);
     CHECK(register_advance(store, WORDS, REGISTER_OPEN) == REGISTER_TIME_OPEN);
     CHECK(register_advance(store, 15, 9) == REGISTER_SHORT_HEAD);
-    CHECK(register_look_back(store, WORDS, 8, rows, 31, list, 8, answer) == REGISTER_SHORT_BUFFER);
+    CHECK(register_look_back(store, WORDS, 8, rows, 47, list, 8, answer) == REGISTER_SHORT_BUFFER);
     CHECK(register_set(store, WORDS, 8, 15, 0) == REGISTER_ACCEPTED);
     CHECK(register_update(store, WORDS, 9, 15, 7) == REGISTER_ACCEPTED);
     CHECK(register_advance(store, WORDS, 10) == REGISTER_ACCEPTED);
+    return 0;
+}
+
+/* A row whose tag, reading and since are no two alike. */
+static int told_apart(void) {
+    CHECK(look_back(10) == 0 && answer[REGISTER_ROWS] == 3 && row(2, 15, 7, 9));
+    CHECK(rows[6] == 15 && rows[7] == 7 && rows[8] == 9);
     return 0;
 }
 
@@ -59,5 +74,6 @@ int main(void) {
     int line = change();
     if (line == 0) line = look();
     if (line == 0) line = turned_away();
+    if (line == 0) line = told_apart();
     return line;
 }

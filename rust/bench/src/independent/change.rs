@@ -1,6 +1,6 @@
 //! A change: its entry, and the writes once it is accepted. `sound` has tested everything before the first write.
 use super::head::{self, Head};
-use super::parts::{BITS_HIGH, BITS_LOW, CHILD, CLOSED, LEFT, OPENED, Parts, READING, RIGHT, TAG, UP};
+use super::parts::{BITS_HIGH, BITS_LOW, CHILD, CLOSED, LEFT, OPENED, Parts, Payload, RIGHT, TAG, UP};
 use super::sound::Plan;
 use crate::{OPEN, Refusal};
 
@@ -45,13 +45,10 @@ impl<'a> Change<'a> {
         }
     }
 
-    /// Places a record from now, in a new block if the acceptor is full or there is none.
+    /// Places the record of a set or new reading: its condition stands so since now.
     #[inline]
-    pub fn place(&mut self, tag: u32, reading: u32) {
-        if self.head.opened == 0 || self.head.fill == self.head.settings.block {
-            self.open();
-        }
-        self.put(tag, reading);
+    pub fn set(&mut self, tag: u32, reading: i32) {
+        self.place(tag, Payload { reading: reading as u32, since: self.now });
     }
 
     /// Writes the head's words that a change moves.
@@ -65,11 +62,20 @@ impl<'a> Change<'a> {
         words[head::RIGHT] = self.head.right;
     }
 
+    /// Places a record from now, in a new block if the acceptor is full or there is none.
+    #[inline]
+    fn place(&mut self, tag: u32, payload: Payload) {
+        if self.head.opened == 0 || self.head.fill == self.head.settings.block {
+            self.open();
+        }
+        self.put(tag, payload);
+    }
+
     /// The acceptor's next slot takes a record, and the directory follows.
     #[inline]
-    fn put(&mut self, tag: u32, reading: u32) {
+    fn put(&mut self, tag: u32, payload: Payload) {
         let (n, k) = (self.head.opened, self.head.fill);
-        self.parts.blocks.put(n, k, [tag, reading, self.now, OPEN]);
+        self.parts.blocks.put(n, k, [tag, payload.reading, self.now, OPEN, payload.since]);
         self.head.fill += 1;
         self.parts.directory[tag as usize] = self.head.placed();
     }
@@ -116,15 +122,15 @@ impl<'a> Change<'a> {
     }
 
     /// Ends block n's standing records, and places each again in slot order.
-    fn move_on(&mut self, n: u32, place: impl Fn(&mut Self, u32, u32)) {
+    fn move_on(&mut self, n: u32, place: impl Fn(&mut Self, u32, Payload)) {
         let mut standing = self.parts.blocks.standing(n);
         while standing != 0 {
             let slot = standing.trailing_zeros();
             standing &= standing - 1;
             let record = self.parts.blocks.record(n, slot);
-            let (tag, reading) = (record[TAG], record[READING]);
+            let (tag, payload) = (record[TAG], Payload::of(record));
             self.parts.blocks.end(n, slot, self.now);
-            place(self, tag, reading);
+            place(self, tag, payload);
         }
         debug_assert!(self.parts.blocks.get(n)[BITS_LOW..=BITS_HIGH] == [0, 0]);
     }

@@ -83,7 +83,7 @@ fn find(index: &[u32], opened: usize, t: u32) -> Option<Found> {
 struct Walk<'s, 'r> {
     blocks: Blocks<&'s [u32]>,
     t: u32,
-    rows: std::slice::IterMut<'r, [u32; 2]>,
+    rows: std::slice::IterMut<'r, [u32; ROW]>,
     list: std::slice::IterMut<'r, u32>,
 }
 
@@ -141,9 +141,9 @@ impl Walk<'_, '_> {
     fn take(&mut self, n: u32) -> Option<()> {
         let block = self.blocks.get(n);
         let (records, _) = block[BLOCK_HEAD..].as_chunks::<RECORD>();
-        for &[tag, reading, from, to] in records {
+        for &[tag, reading, from, to, since] in records {
             if from <= self.t && self.t < to {
-                *self.rows.next()? = [tag, reading];
+                *self.rows.next()? = [tag, reading, since];
             }
         }
         Some(())

@@ -1,5 +1,6 @@
-//! An independent implementation of document 01, in safe Rust. It shares no code with the Rattle crates and was written
-//! without a look at them; what it shares with [`crate::Proved`] is the store's layout, word for word.
+//! An independent implementation of document 01, with the since word of document 02, in safe Rust. It shares no code
+//! with the Rattle crates and was written without a look at them; what it shares with [`crate::Proved`] is the store's
+//! layout, word for word.
 //!
 //! `head` reads and tests the first 16 words, `parts` cuts the lent store, `sound` holds the tests of a change before
 //! its first write, `change` the writes, `look` the look-back.
@@ -37,7 +38,7 @@ impl Calls for Independent {
             return Err(Refusal::STANDING);
         }
         Plan::set().test(&change)?;
-        change.place(tag, reading as u32);
+        change.set(tag, reading);
         change.finish();
         Ok(())
     }
@@ -56,7 +57,7 @@ impl Calls for Independent {
         let plan = Plan::clear(&change, tag)?.and_set();
         plan.test(&change)?;
         change.clear(tag, &plan);
-        change.place(tag, reading as u32);
+        change.set(tag, reading);
         change.finish();
         Ok(())
     }

@@ -17,8 +17,24 @@ pub const BITS_HIGH: usize = 7;
 
 /// Numbers of a record's words.
 pub const TAG: usize = 0;
-pub const READING: usize = 1;
+const READING: usize = 1;
 pub const TO: usize = 3;
+const SINCE: usize = 4;
+
+/// What a record says of its condition. A copy of the record carries it along as it is.
+#[derive(Clone, Copy)]
+pub struct Payload {
+    pub reading: u32,
+    /// The second of the last set or new reading.
+    pub since: u32,
+}
+
+impl Payload {
+    /// The payload of a record.
+    pub fn of(record: &[u32; RECORD]) -> Payload {
+        Payload { reading: record[READING], since: record[SINCE] }
+    }
+}
 
 /// A store lent for a change.
 pub struct Parts<'a> {

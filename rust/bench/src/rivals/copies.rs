@@ -21,14 +21,14 @@ impl Copies {
         match change.kind {
             Kind::Set => {
                 self.place[tag] = self.state.len();
-                self.state.push((change.tag, change.reading));
+                self.state.push(change.into());
             }
-            Kind::Update => self.state[self.place[tag]].1 = change.reading,
+            Kind::Update => self.state[self.place[tag]] = change.into(),
             Kind::Clear => {
                 let at = self.place[tag];
                 self.state.swap_remove(at);
                 if let Some(moved) = self.state.get(at) {
-                    self.place[moved.0 as usize] = at;
+                    self.place[moved.tag as usize] = at;
                 }
             }
         }
@@ -89,6 +89,6 @@ impl Contender for Copies {
 
     /// The rows, and the entries that the search by halves compares.
     fn words_read(&self) -> Option<usize> {
-        Some(2 * self.rows.len() + self.index.len().max(1).ilog2() as usize + 1)
+        Some(Row::WORDS * self.rows.len() + self.index.len().max(1).ilog2() as usize + 1)
     }
 }

@@ -5,25 +5,23 @@ use crate::input::{Change, Kind, TAGS};
 #[derive(Default)]
 pub struct Log {
     changes: Vec<Change>,
-    state: Vec<Option<i32>>,
     rows: Vec<Row>,
     replayed: usize,
 }
 
 impl Log {
+    /// Finds for each tag that stands its last change, which has its reading and since.
     fn replay(&mut self, second: u32) {
-        self.state.clear();
-        self.state.resize(TAGS as usize, None);
         self.replayed = self.changes.partition_point(|change| change.second <= second);
+        let mut state: [Option<&Change>; TAGS as usize] = [None; TAGS as usize];
         for change in &self.changes[..self.replayed] {
-            self.state[change.tag as usize] = match change.kind {
+            state[change.tag as usize] = match change.kind {
                 Kind::Clear => None,
-                Kind::Set | Kind::Update => Some(change.reading),
+                Kind::Set | Kind::Update => Some(change),
             };
         }
         self.rows.clear();
-        let standing = self.state.iter().enumerate().filter_map(|(tag, reading)| reading.map(|r| (tag as u32, r)));
-        self.rows.extend(standing);
+        self.rows.extend(state.into_iter().flatten().map(Row::from));
     }
 }
 

@@ -6,8 +6,25 @@ pub mod store;
 
 use crate::input::Change;
 
-/// Tag and reading.
-pub type Row = (u32, i32);
+/// A condition that stood, and the second of its last set or new reading.
+#[derive(Clone, Copy, PartialEq, Eq, PartialOrd, Ord)]
+pub struct Row {
+    pub tag: u32,
+    pub reading: i32,
+    pub since: u32,
+}
+
+impl Row {
+    /// Words of a row.
+    pub const WORDS: usize = std::mem::size_of::<Row>() / 4;
+}
+
+impl From<&Change> for Row {
+    /// The row from a set or new reading on.
+    fn from(change: &Change) -> Row {
+        Row { tag: change.tag, reading: change.reading, since: change.second }
+    }
+}
 
 pub trait Contender {
     fn name(&self) -> &'static str;

@@ -13,7 +13,8 @@ CREATE INDEX by_end ON condition (ended, began, tag, reading);
 BEGIN";
 const INSERT: &CStr = c"INSERT INTO condition (id, tag, reading, began, ended) VALUES (?1, ?2, ?3, ?4, 4294967295)";
 const END: &CStr = c"UPDATE condition SET ended = ?2 WHERE id = ?1";
-const LOOK: &CStr = c"SELECT tag, reading FROM condition WHERE ended > ?1 AND began <= ?1";
+/// An interval begins with a set or new reading: its beginning is the since of a row.
+const LOOK: &CStr = c"SELECT tag, reading, began FROM condition WHERE ended > ?1 AND began <= ?1";
 const PAGES: &CStr = c"SELECT page_count * page_size FROM pragma_page_count, pragma_page_size";
 
 type Handle = *mut c_void;
@@ -159,8 +160,8 @@ impl Sqlite {
         unsafe {
             (self.library.bind)(self.look, 1, second.into());
             while (self.library.step)(self.look) == ROW {
-                let (tag, reading) = ((self.library.column)(self.look, 0), (self.library.column)(self.look, 1));
-                self.rows.push((tag as u32, reading as i32));
+                let [tag, reading, since] = [0, 1, 2].map(|column| (self.library.column)(self.look, column));
+                self.rows.push(Row { tag: tag as u32, reading: reading as i32, since: since as u32 });
             }
             (self.library.reset)(self.look);
         }

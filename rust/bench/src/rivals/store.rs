@@ -63,7 +63,8 @@ impl<R: Calls> Contender for Store<R> {
         }
         let last = self.answer.map_or(0, |answer| answer.rows as usize);
         self.rows.clear();
-        self.rows.extend(self.row_words.chunks(ROW).take(last).map(|row| (row[0], row[1] as i32)));
+        let rows_given = self.row_words.as_chunks::<ROW>().0.iter().take(last);
+        self.rows.extend(rows_given.map(|&[tag, reading, since]| Row { tag, reading: reading as i32, since }));
         rows
     }
 

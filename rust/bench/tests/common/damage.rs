@@ -20,7 +20,7 @@ impl Map {
 
     /// Word `part` of slot k of block n.
     pub fn slot(&self, n: u32, k: u32, part: usize) -> usize {
-        self.block(n, 8 + 4 * k as usize + part)
+        self.block(n, 8 + 5 * k as usize + part)
     }
 }
 
@@ -70,7 +70,7 @@ pub fn one_word(map: Map, store: &mut [u32], rng: &mut Rng) {
         11 | 12 => map.block(n, 6 + rng.below(2) as usize),
         13 => map.block(n, rng.below(2) as usize),
         14 | 15 => map.slot(n, k, 0),
-        16 => map.slot(n, k, 2 + rng.below(2) as usize),
+        16 => map.slot(n, k, 2 + rng.below(3) as usize),
         17 => 16 + rng.below(store[5].clamp(1, 4096)) as usize,
         18 => {
             rng.pick(&[16 + 4096, 16 + 4096 + 256]) + rng.below(store[5].clamp(1, 4096).div_ceil(16)).min(15) as usize
@@ -142,9 +142,9 @@ fn draw_block(map: Map, store: &mut [u32], n: u32, wild: u32, rng: &mut Rng) {
     for k in 0..s.block {
         let to = if rng.chance(1, 2) { OPEN } else { second(rng) };
         let tags = if rng.chance(wild, 200) { s.tags + 1 } else { s.tags };
-        let record = [rng.below(tags), rng.word(), second(rng), to];
+        let record = [rng.below(tags), rng.word(), second(rng), to, rng.word()];
         let at = map.slot(n, k, 0);
-        store[at..at + 4].copy_from_slice(&record);
+        store[at..at + record.len()].copy_from_slice(&record);
     }
 }
 

@@ -2,6 +2,14 @@
 use super::Call;
 use std::collections::BTreeMap;
 
+/// What the log tells of a condition that stands.
+#[derive(Clone, Copy, Debug, PartialEq, Eq)]
+pub struct Standing {
+    pub reading: i32,
+    /// The second of its last set or new reading.
+    pub since: u32,
+}
+
 #[derive(Default)]
 pub struct Log {
     changes: Vec<(u32, u32, Option<i32>)>,
@@ -23,12 +31,12 @@ impl Log {
         }
     }
 
-    /// Tag and reading of each condition that stands at t.
-    pub fn state(&self, t: u32) -> BTreeMap<u32, i32> {
+    /// Each condition that stands at t, by its tag.
+    pub fn state(&self, t: u32) -> BTreeMap<u32, Standing> {
         let mut state = BTreeMap::new();
         for &(second, tag, reading) in self.changes.iter().take_while(|change| change.0 <= t) {
             match reading {
-                Some(reading) => state.insert(tag, reading),
+                Some(reading) => state.insert(tag, Standing { reading, since: second }),
                 None => state.remove(&tag),
             };
             debug_assert!(second <= t);

@@ -15,13 +15,13 @@ put-record-requires : tie.Need-put-record-requires
 unfolding place
 put-record-requires c κs =
     let m = c .before .before .before .before .make-room .ensures in
-    rw (m .settings, c .told .ensures) (able-next (c .before .before .before .before .before .before .before .pre) (m .ran))
+    rw (m .settings, c .before .told .ensures) (able-next (c .before .before .before .before .before .before .before .pre) (m .ran))
 
 returns : tie.Need-returns
 unfolding place
 returns c =
     let m = c .before .before .before .before .before .before .before .make-room .ensures in
-    onto m (rw (m .settings, c .before .before .before .told .ensures) at (c .before .before .put-record .ensures))
+    onto m (rw (m .settings, c .before .before .before .before .told .ensures) at (c .before .before .put-record .ensures))
 
 pub place-spec : {M : Type 1} → statement M
 place-spec = tie.close (tie.spec make-room-requires (search needs) put-record-requires (λ c. ran-length (returns c .ran)) returns)

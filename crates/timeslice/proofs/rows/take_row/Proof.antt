@@ -28,6 +28,9 @@ returns-3 c =
 slice-write-rows-2 : tie.Need-slice-write-rows-2
 slice-write-rows-2 c = simp length-set (omega arith)
 
+slice-write-rows-3 : tie.Need-slice-write-rows-3
+slice-write-rows-3 c = simp length-set (omega arith)
+
 returns-4 : tie.Need-returns-4
 returns-4 c =
     let at-if3 = c .before .before in
@@ -55,6 +58,9 @@ take-row-spec =
     (search needs)
     (search needs)
     slice-write-rows-2
+    (search needs)
+    (search needs)
+    slice-write-rows-3
     (search needs)
     (search needs)
     returns-4)

@@ -61,7 +61,7 @@ fn damaged_word(s: Settings, n: u32, random: &mut Random) -> usize {
                 return block_word(s, block, random.below(8));
             }
             let slot = random.below(s.block);
-            block_word(s, block, 8 + 4 * slot + random.below(4))
+            block_word(s, block, 8 + 5 * slot + random.below(5))
         }
     }
 }

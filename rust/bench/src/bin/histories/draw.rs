@@ -72,7 +72,7 @@ fn buffer(enough: u32, random: &mut Random) -> u32 {
 
 /// The lengths of a look-back's two buffers, rows first.
 pub fn buffers(account: &Account, random: &mut Random) -> (u32, u32) {
-    let rows = buffer(2 * account.settings.tags, random);
+    let rows = buffer(3 * account.settings.tags, random);
     (rows, buffer(account.settings.blocks, random))
 }
 
