@@ -12,6 +12,16 @@ use borrow.Author.Tests.{eq-eqb}
 use Rattle.base.specs.Branch.{eqb-same}
 use Rattle.base.specs.Sums.{total, totals, occ}
 
+-- ---- what has two parts, each equal or not, is equal or not
+pub both-discrete : {A B C : Type 0} (one : C → A) (other : C → B) → ((x y : C) → one x ≡ one y → other x ≡ other y → x ≡ y)
+    → Discrete A → Discrete B → Discrete C
+both-discrete one other same da db x y = go (da (one x) (one y)) (db (other x) (other y))
+  where
+    go : Dec (one x ≡ one y) → Dec (other x ≡ other y) → Dec (x ≡ y)
+    go (yes p) (yes q) = yes (same x y p q)
+    go (yes p) (no d) = no (λ e. d (ap other e))
+    go (no d) q = no (λ e. d (ap one e))
+
 pub record Same {A : Type 0} (l m : List A) : Type 0 where
   pub sums : (w : A → ℕ) → total w l ≡ total w m
 

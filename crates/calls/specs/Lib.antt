@@ -7,6 +7,7 @@ pub mod Step
 pub mod Book
 pub mod Log
 pub mod History
+pub mod Opened
 pub mod Table
 pub mod TableProof
 pub mod Claims

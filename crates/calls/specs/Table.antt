@@ -1,4 +1,5 @@
--- THE PROVED TABLE (document 01, "Proved table (marked P) and edges"): P1 to P12 and the printed case, as one statement about the definitions.
+-- THE PROVED TABLE (document 01, "Proved table (marked P) and edges", with the since and the sizes of document 02, request 1): P1 to P12, the printed
+-- case, more of since, and slips to shut out, as one statement about the definitions.
 use mathlib.Core.Path.{_≡_}
 use mathlib.Core.Bool.{true}
 use mathlib.Core.List.{List, [], _∷_, _++_}
@@ -35,7 +36,8 @@ after7 = wordsAfter fresh upTo7
 unfoldable pub after8 : List ℕ
 after8 = wordsAfter after7 (Clear 8 1 ∷ [])
 
--- and on: tags 6 and 7 fill block 2, tag 8 opens block 3; with the clear at 13 only tag 4 stands in block 2, which closes and copies it to block 3
+-- and on: tags 6 and 7 fill block 2, tag 8 opens block 3; with the clear at 13 only tag 4 stands in block 2, which closes
+-- and copies it to block 3
 unfoldable pub after13 : List ℕ
 after13 = wordsAfter after8 (Set 9 6 1 ∷ Set 9 7 2 ∷ Set 10 8 3 ∷ Clear 11 5 ∷ Clear 12 6 ∷ Clear 13 7 ∷ [])
 
@@ -106,7 +108,7 @@ pub record Table : Type 0 where
   -- P11 a set at 8 of tag 15 passes, of 16 gives 8
   pub p11 : (reading : ℕ) → accepted (step after8 (Set 8 15 reading) .answer) ≡ true
   pub p11-not : (reading : ℕ) → step after8 (Set 8 16 reading) .answer ≡ Refused 8
-  -- P12 this layout: 4,624 words pass, 4,623 give 4
+  -- P12 this layout: 4,624 words pass, 4,623 give 4 (4,592 and 4,591 in document 01; request 1: "In P12 the store's length becomes 4,624.")
   pub p12 : (ws : List ℕ) → length ws ≡ 4624 → accepted (step ws (Start settings) .answer) ≡ true
   pub p12-not : (ws : List ℕ) → length ws ≡ 4623 → step ws (Start settings) .answer ≡ Refused 4
   -- since, beyond P1 to P3

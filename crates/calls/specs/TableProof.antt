@@ -2,30 +2,14 @@
 use mathlib.Core.Path.{_≡_, refl}
 use mathlib.Core.Bool.{true}
 use Rattle.calls.specs.Calls.{Set, Refused, accepted}
-use Rattle.calls.specs.Step.{step, wordsRead}
+use Rattle.calls.specs.Step.{step, wordsRead, set}
 use mathlib.Core.List.{List}
 use Prim.Native.Nat.{ℕ, suc, _-_, _≤_}
 use native.Mathlib.Omega.{arith}
 use lib.Dec.{lit≤}
 use borrow.Author.Tests.{ne-eqb}
-use Rattle.base.specs.Bits.{bitAt, withBit, withoutBit}
-use Rattle.base.specs.Ones.{bitsFrom}
-use Rattle.base.specs.Slots.{slotsOf}
-use Rattle.layout.specs.Sizes.{blockLen, layoutLen}
-use Rattle.layout.specs.Program.{each}
-use Rattle.layout.specs.Settings.{inLimits}
-use Rattle.layout.specs.Head.{headOf, headWords, withHead, cleared, badHead, placed}
-use Rattle.layout.specs.Cursor.{storeCursor}
-use Rattle.layout.specs.Standing.{stands, raised, lowered}
-use Rattle.layout.specs.Parts.{blockPart, levelPart, pagePart, blockWord, slotWord}
-use Rattle.layout.specs.Words.{readWord, writeWord, wipeBlock}
-use Rattle.layout.specs.OnWords.{over}
-use Rattle.calls.specs.Placing.{enterTime, openBlock, unlink, endRecord, standing, putRecord, moveRecord, closeFull, judgeFull, roll, makeRoom, place, replace, close, judge, clearTag, finish, setProgram, clearProgram, updateProgram, advanceProgram}
-use Rattle.calls.specs.Walk.{lastUpTo, entries, topLevel, lookUp, descend, search, rowOf, rowsOf, neighbour, visit, path, look}
-use Rattle.calls.specs.Refusals.{refusal, setTests, badPlace, badBlock, unsoundSet, unsoundClear, blocksOut}
-use Rattle.calls.specs.LookBack.{reader, lookAt, lookBack}
-use Rattle.calls.specs.Step.{start, set, clear, update, advance}
-use Rattle.calls.specs.Book.{writes}
+use Rattle.calls.specs.Refusals.{refusal, setTests}
+use Rattle.calls.specs.Opened.{openTests, openPrograms, openWalk}
 use Rattle.calls.specs.Table.{Table, Since, Slips, fresh, after7, after8, after13}
 
 -- ---- a set is accepted, or refused, by its tests alone
@@ -41,15 +25,15 @@ set-refused ws s tag reading n e = rw (e, ne-eqb (suc n) 0 (omega arith))
 
 -- ---- the parts of the table are proved one by one, because a declaration may take only so many steps of the prover
 since : Since
-unfolding fresh after7 after8 after13 bitAt withBit withoutBit bitsFrom slotsOf blockLen layoutLen each inLimits headOf headWords withHead cleared badHead placed storeCursor stands raised lowered blockPart levelPart pagePart blockWord slotWord readWord writeWord wipeBlock over enterTime openBlock unlink endRecord standing putRecord moveRecord closeFull judgeFull roll makeRoom place replace close judge clearTag finish setProgram clearProgram updateProgram advanceProgram lastUpTo entries topLevel lookUp descend search rowOf rowsOf neighbour visit path look badPlace badBlock unsoundSet unsoundClear blocksOut start set clear update advance reader lookAt lookBack writes
+unfolding fresh after7 after8 after13 openTests openPrograms openWalk
 since = record { before = refl; new-reading = refl; same-reading = refl; copied-twice = refl; row-words = refl }
 
 slips : Slips
-unfolding fresh bitAt withBit withoutBit bitsFrom slotsOf blockLen layoutLen each inLimits headOf headWords withHead cleared badHead placed storeCursor stands raised lowered blockPart levelPart pagePart blockWord slotWord readWord writeWord wipeBlock over enterTime openBlock unlink endRecord standing putRecord moveRecord closeFull judgeFull roll makeRoom place replace close judge clearTag finish setProgram clearProgram updateProgram advanceProgram lastUpTo entries topLevel lookUp descend search rowOf rowsOf neighbour visit path look badPlace badBlock unsoundSet unsoundClear blocksOut start set clear update advance reader lookAt lookBack writes
+unfolding fresh openTests openPrograms openWalk
 slips = record { acceptor = refl; first = refl }
 
 pub table : Table
-unfolding fresh after7 after8 bitAt withBit withoutBit bitsFrom slotsOf blockLen layoutLen each inLimits headOf headWords withHead cleared badHead placed storeCursor stands raised lowered blockPart levelPart pagePart blockWord slotWord readWord writeWord wipeBlock over enterTime openBlock unlink endRecord standing putRecord moveRecord closeFull judgeFull roll makeRoom place replace close judge clearTag finish setProgram clearProgram updateProgram advanceProgram lastUpTo entries topLevel lookUp descend search rowOf rowsOf neighbour visit path look badPlace badBlock unsoundSet unsoundClear blocksOut start set clear update advance reader lookAt lookBack writes
+unfolding fresh after7 after8 openTests openPrograms openWalk
 table = record {
   p1 = refl;
   p2 = refl;

@@ -2,25 +2,10 @@
 -- that leads to `three` runs programs.
 use mathlib.Core.Path.{_≡_, refl}
 use lib.ListN.{replicate}
-use Rattle.base.specs.Bits.{bitAt, withBit, withoutBit}
-use Rattle.base.specs.Ones.{bitsFrom}
-use Rattle.base.specs.Slots.{slotsOf}
-use Rattle.layout.specs.Sizes.{blockLen, layoutLen}
-use Rattle.layout.specs.Program.{each}
-use Rattle.layout.specs.Settings.{inLimits}
-use Rattle.layout.specs.Head.{headOf, headWords, withHead, cleared, badHead, placed}
-use Rattle.layout.specs.Cursor.{storeCursor}
-use Rattle.layout.specs.Standing.{stands, raised, lowered}
-use Rattle.layout.specs.Parts.{blockPart, levelPart, pagePart, blockWord, slotWord}
-use Rattle.layout.specs.Words.{readWord, writeWord, wipeBlock}
-use Rattle.layout.specs.OnWords.{over}
 use Rattle.calls.specs.Calls.{Start}
-use Rattle.calls.specs.Placing.{enterTime, openBlock, unlink, endRecord, standing, putRecord, moveRecord, closeFull, judgeFull, roll, makeRoom, place, replace, close, judge, clearTag, finish, setProgram, clearProgram}
-use Rattle.calls.specs.Walk.{lastUpTo, entries, topLevel, lookUp, descend, search, rowOf, rowsOf, neighbour, visit, path, look}
-use Rattle.calls.specs.Refusals.{badPlace, badBlock, unsoundSet, unsoundClear, blocksOut}
-use Rattle.calls.specs.LookBack.{reader, lookAt, lookBack}
-use Rattle.calls.specs.Step.{step, start, set, clear, update, advance}
+use Rattle.calls.specs.Step.{step}
 use Rattle.calls.specs.History.{wordsAfter}
+use Rattle.calls.specs.Opened.{openTests, openPrograms, openWalk}
 use Rattle.edges.specs.EdgesStores.{settings, fresh, three, toThree, wide, six, tree, many}
 use Rattle.edges.specs.EdgesChange.{TagEdges, PlaceEdges, TagBlockEdges, AcceptorEdges, RoomEdges}
 use Rattle.edges.specs.EdgesLookBack.{AskEdges, WalkEdges, PageEdges}
@@ -29,11 +14,11 @@ use Rattle.edges.specs.EdgesHeadProof.{start-edges, head-edges}
 use Rattle.edges.specs.EdgesWordsProof.{word-edges}
 
 three-left : wordsAfter (step (replicate 4621 9) (Start settings) .store) toThree ≡ three
-unfolding three bitAt withBit withoutBit bitsFrom slotsOf blockLen layoutLen each inLimits headOf headWords withHead cleared badHead placed storeCursor stands raised lowered readWord writeWord wipeBlock over enterTime openBlock unlink endRecord standing putRecord moveRecord closeFull judgeFull roll makeRoom place replace close judge clearTag finish setProgram clearProgram badPlace badBlock unsoundSet unsoundClear blocksOut start set clear
+unfolding three openTests openPrograms
 three-left = refl
 
 tag-edges : TagEdges
-unfolding three bitAt withBit withoutBit bitsFrom slotsOf blockLen layoutLen inLimits headOf headWords badHead placed stands raised lowered readWord writeWord over badPlace badBlock unsoundSet unsoundClear blocksOut set clear update advance
+unfolding three openTests
 tag-edges = record {
   set-open = λ tag reading. refl;
   set-last = refl;
@@ -68,7 +53,7 @@ tag-edges = record {
 }
 
 place-edges : PlaceEdges
-unfolding fresh three wide bitAt withBit withoutBit bitsFrom slotsOf blockLen layoutLen inLimits headOf headWords badHead placed stands raised lowered readWord writeWord over badPlace badBlock unsoundSet unsoundClear blocksOut set clear update advance
+unfolding fresh three wide openTests
 place-edges = record {
   sound = (refl, refl);
   above = (refl, refl);
@@ -83,7 +68,7 @@ place-edges = record {
 }
 
 tag-block-edges : TagBlockEdges
-unfolding three bitAt withBit withoutBit bitsFrom slotsOf blockLen layoutLen inLimits headOf headWords badHead placed stands raised lowered readWord writeWord over badPlace badBlock unsoundSet unsoundClear blocksOut set clear update advance
+unfolding three openTests
 tag-block-edges = record {
   sound = (refl, refl);
   up-0 = (refl, refl);
@@ -107,7 +92,7 @@ tag-block-edges = record {
 }
 
 acceptor-edges : AcceptorEdges
-unfolding three wide six bitAt withBit withoutBit bitsFrom slotsOf blockLen layoutLen inLimits headOf headWords badHead placed stands raised lowered readWord writeWord over badPlace badBlock unsoundSet unsoundClear blocksOut set clear update advance
+unfolding three wide six openTests
 acceptor-edges = record {
   sound = (refl, refl, refl);
   up-2 = (refl, refl, refl);
@@ -139,7 +124,7 @@ acceptor-edges = record {
 }
 
 room-edges : RoomEdges
-unfolding fresh three bitAt withBit withoutBit bitsFrom slotsOf blockLen layoutLen inLimits headOf headWords badHead placed stands raised lowered readWord writeWord over badPlace badBlock unsoundSet unsoundClear blocksOut set clear update advance
+unfolding fresh three openTests
 room-edges = record {
   none-left = (refl, refl, refl);
   one-left = (refl, refl, refl);
@@ -160,7 +145,7 @@ room-edges = record {
 }
 
 ask-edges : AskEdges
-unfolding tree blockLen layoutLen inLimits headOf headWords badHead blockPart levelPart pagePart blockWord slotWord writeWord lastUpTo entries topLevel lookUp descend search rowOf rowsOf neighbour visit path look reader lookAt lookBack
+unfolding tree openWalk
 ask-edges = record {
   time-open = λ rows list. refl;
   time-last = refl;
@@ -175,7 +160,7 @@ ask-edges = record {
 }
 
 walk-edges : WalkEdges
-unfolding tree blockLen layoutLen inLimits headOf headWords badHead blockPart levelPart pagePart blockWord slotWord writeWord lastUpTo entries topLevel lookUp descend search rowOf rowsOf neighbour visit path look reader lookAt lookBack
+unfolding tree openWalk
 walk-edges = record {
   sound = refl;
   tests-12 = refl;
@@ -217,7 +202,7 @@ walk-edges = record {
 }
 
 page-edges : PageEdges
-unfolding many blockLen layoutLen inLimits headOf headWords badHead blockPart levelPart pagePart blockWord slotWord writeWord lastUpTo entries topLevel lookUp descend search rowOf rowsOf neighbour visit path look reader lookAt lookBack
+unfolding many openWalk
 page-edges = record {
   blocks-16 = refl;
   blocks-17 = refl;

@@ -115,7 +115,7 @@ out = brim ▹ Head headBlocks ≔ 3
 -- full, and tag 2 stands in its last slot, 32, whose bit is the lowest of the high word.
 unfoldable pub wide : List ℕ
 wide = storeOf (settingsOf 33 2 3 3) (cursorOf 2 9 33 0 1) (1 ∷ 2 ∷ []) (1 ∷ 2 ∷ 66 ∷ [])
-    ((1 ∷ OPEN ∷ 0 ∷ 0 ∷ 0 ∷ 2 ∷ 3 ∷ 0 ∷ 0 ∷ 10 ∷ 1 ∷ OPEN ∷ 0 ∷ 1 ∷ 11 ∷ 1 ∷ OPEN ∷ 1 ∷ replicate 155 0)
+    ((1 ∷ OPEN ∷ 0 ∷ 0 ∷ 0 ∷ 2 ∷ 3 ∷ 0 ∷ 0 ∷ 10 ∷ 1 ∷ OPEN ∷ 1 ∷ 1 ∷ 11 ∷ 1 ∷ OPEN ∷ 1 ∷ replicate 155 0)
     ++ (2 ∷ OPEN ∷ 1 ∷ 0 ∷ 0 ∷ 0 ∷ 0 ∷ 1 ∷ replicate 160 0)
     ++ (2 ∷ 12 ∷ 2 ∷ OPEN ∷ 2 ∷ replicate 173 0))
 
@@ -124,16 +124,16 @@ wide = storeOf (settingsOf 33 2 3 3) (cursorOf 2 9 33 0 1) (1 ∷ 2 ∷ []) (1 �
 unfoldable pub six : List ℕ
 six = storeOf (settingsOf 6 3 3 4) (cursorOf 2 9 4 0 1) (1 ∷ 2 ∷ []) (1 ∷ 2 ∷ 3 ∷ 9 ∷ [])
     (1 ∷ OPEN ∷ 0 ∷ 0 ∷ 0 ∷ 2 ∷ 7 ∷ 0
-    ∷ 0 ∷ 10 ∷ 1 ∷ OPEN ∷ 0
-    ∷ 1 ∷ 11 ∷ 1 ∷ OPEN ∷ 0
-    ∷ 2 ∷ 12 ∷ 1 ∷ OPEN ∷ 0
-    ∷ 3 ∷ 13 ∷ 1 ∷ 1 ∷ 0
-    ∷ 3 ∷ 14 ∷ 1 ∷ 1 ∷ 0
-    ∷ 3 ∷ 15 ∷ 1 ∷ 2 ∷ 0
+    ∷ 0 ∷ 10 ∷ 1 ∷ OPEN ∷ 1
+    ∷ 1 ∷ 11 ∷ 1 ∷ OPEN ∷ 1
+    ∷ 2 ∷ 12 ∷ 1 ∷ OPEN ∷ 1
+    ∷ 3 ∷ 13 ∷ 1 ∷ 1 ∷ 1
+    ∷ 3 ∷ 14 ∷ 1 ∷ 1 ∷ 1
+    ∷ 3 ∷ 15 ∷ 1 ∷ 2 ∷ 1
     ∷ 2 ∷ OPEN ∷ 1 ∷ 0 ∷ 0 ∷ 0 ∷ 4 ∷ 0
-    ∷ 3 ∷ 16 ∷ 2 ∷ 3 ∷ 0
-    ∷ 3 ∷ 17 ∷ 3 ∷ 4 ∷ 0
-    ∷ 3 ∷ 18 ∷ 4 ∷ OPEN ∷ 0
+    ∷ 3 ∷ 16 ∷ 2 ∷ 3 ∷ 2
+    ∷ 3 ∷ 17 ∷ 3 ∷ 4 ∷ 3
+    ∷ 3 ∷ 18 ∷ 4 ∷ OPEN ∷ 4
     ∷ replicate 53 0)
 
 -- b = 2, q = 1, B = 8, D = 3, the clock at 9. Blocks 2 and 6 are open; 1, 3, 4 and 5 closed at 9. At 8 the path is 6,

@@ -17,12 +17,16 @@ pub record Moved (h : Head) (p : Prog Cursor) (w : List ℕ) (r : Head) (w′ : 
   pub ran : Ran (over (h .settings)) p w (r .cursor) w′
   pub settings : r .settings ≡ h .settings
 
+-- ---- the head made anew: h with the cursor to which a call moved it on
+pub anew : {h d r : Head} {p : Prog Cursor} {w w′ : List ℕ} → Moved h p w d w′ → r ≡ onward h (d .cursor) → Moved h p w r w′
+anew {h} {d} {r} {p} {w} {w′} m e = subst (λ (x : Head). Moved h p w x w′) (sym e) (record { ran = m .ran; settings = refl })
+
 -- ---- nothing is left to do: the head r is the next one, as it stands or as one of its methods answers it
 pub stays : {h r : Head} {w : List ℕ} → r .settings ≡ h .settings → over (h .settings) .Good w → Moved h (ret (r .cursor)) w r w
 stays e g = record { ran = done g; settings = e }
 
 pub moves : {h r : Head} {c : Cursor} {w : List ℕ} → r ≡ onward h c → over (h .settings) .Good w → Moved h (ret c) w r w
-moves {h} {r} {c} {w} e g = subst (λ (x : Head). Moved h (ret c) w x w) (sym e) (record { ran = done g; settings = refl })
+moves {h} {c = c} e g = anew {d = onward h c} (record { ran = done g; settings = refl }) e
 
 -- ---- a call that answers a word or nothing, then the rest
 pub after : {A : Type 0} {h r : Head} {p : Prog A} {k : A → Prog Cursor} {w w₁ w₂ : List ℕ} {x : A}
@@ -33,10 +37,6 @@ after e m = record { ran = then e (m .ran); settings = m .settings }
 pub onto : {h d r : Head} {p : Prog Cursor} {k : Cursor → Prog Cursor} {w w₁ w₂ : List ℕ}
     → Moved h p w d w₁ → Moved (onward h (d .cursor)) (k (d .cursor)) w₁ r w₂ → Moved h (bind p k) w r w₂
 onto m n = record { ran = then (m .ran) (n .ran); settings = n .settings }
-
--- ---- the head made anew: h with the cursor to which a call moved it on
-pub anew : {h d r : Head} {p : Prog Cursor} {w w′ : List ℕ} → Moved h p w d w′ → r ≡ onward h (d .cursor) → Moved h p w r w′
-anew {h} {d} {r} {p} {w} {w′} m e = subst (λ (x : Head). Moved h p w x w′) (sym e) (record { ran = m .ran; settings = refl })
 
 -- ---- a branch
 pub if-taken : {h r : Head} {b : Bool} {p q : Prog Cursor} {w w′ : List ℕ} → b ≡ true → Moved h p w r w′ → Moved h (when b p q) w r w′

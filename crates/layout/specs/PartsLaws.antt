@@ -1,13 +1,17 @@
 -- Parts of the store: how long they are, which words they have, and what zeroing one leaves.
 use mathlib.Core.Path.{_≡_, refl, sym, ap, ap₂, _∙_}
+use mathlib.Core.HLevel.{Discrete}
 use mathlib.Core.List.{List, append-assoc}
 use Prim.Native.Nat.{ℕ, zero, suc, _+_, _*_, _-_, _≤_, _<_}
 use native.Mathlib.Omega.{arith}
 use native.Mathlib.Nat.{mul-comm}
+use native.Mathlib.Decide.{ℕ-discrete}
 use lib.ListN.{length, getD, take, drop, replicate, length-take, length-drop, length-replicate}
 use lib.Seq.{getD-take, getD-drop, drop-drop, sets, sets-eq}
 use borrow.Rule.Slice.PartMut.{putMid}
+use Rattle.base.specs.SameRows.{both-discrete}
 use Rattle.layout.specs.declared.settings.Settings.{Settings}
+use Rattle.layout.specs.declared.payload.Payload.{Payload}
 use Rattle.layout.specs.declared.address.Address.the-variants.{Time, Field, Slot}
 use Rattle.layout.specs.Sizes.{levelLen, levelStart, pageLen, dirStart, blockHead, recordLen, blockLen, blockStart, layoutLen, bitsStart}
 use Rattle.layout.specs.SettingsLaws.{block-len}
@@ -115,3 +119,7 @@ module _ (s : Settings) (ws : List ℕ) where
 -- ---- records with the same words tell the same
 pub payload-same : {v w : ℕ → ℕ} → ((i : ℕ) → i < recordLen → v i ≡ w i) → payloadOf v ≡ payloadOf w
 payload-same h = ap₂ newPayload (h _ (omega arith)) (h _ (omega arith))
+
+-- ---- and what they tell is equal or not
+pub payload-discrete : Discrete Payload
+payload-discrete = both-discrete (λ p. p .reading) (λ p. p .since) (λ x y. ap₂ newPayload) ℕ-discrete ℕ-discrete

@@ -13,9 +13,11 @@ use borrow.Author.Tests.{eq-eqb, ne-eqb, leb-true}
 use Rattle.base.specs.Branch.{by-test, by-eqb, is?, cond-all, eqb-same}
 use Rattle.base.specs.Sums.{totals, is}
 use Rattle.base.specs.Pigeonhole.{keyed}
+use Rattle.base.specs.SameRows.{both-discrete}
 use Rattle.layout.specs.declared.payload.Payload.{Payload}
 use Rattle.layout.specs.Sizes.{OPEN}
 use Rattle.layout.specs.Payload.{newPayload}
+use Rattle.layout.specs.PartsLaws.{payload-discrete}
 use Rattle.calls.specs.Calls.{Call, Set, Clear, Update, Row}
 use Rattle.calls.specs.Log.{Log, without, andRow, tells, stateFrom, stateAt}
 use Rattle.theory.specs.Timeline.{Telling, none, some, logged}
@@ -114,22 +116,10 @@ module _ (log : Log) (s tag : ℕ) where
 
 -- ---- the rows of a list and what they tell
 
--- Two payloads are equal or not, and so are two rows.
-payload-discrete : Discrete Payload
-payload-discrete x y = go (ℕ-discrete (x .reading) (y .reading)) (ℕ-discrete (x .since) (y .since))
-  where
-    go : Dec (x .reading ≡ y .reading) → Dec (x .since ≡ y .since) → Dec (x ≡ y)
-    go (yes p) (yes q) = yes (ap₂ newPayload p q)
-    go (yes p) (no d) = no (λ e. d (ap (λ (p : Payload). p .since) e))
-    go (no d) q = no (λ e. d (ap (λ (p : Payload). p .reading) e))
-
+-- Two rows are equal or not.
 pub row-discrete : Discrete Row
-row-discrete x y = go (ℕ-discrete (x .tag) (y .tag)) (payload-discrete (x .payload) (y .payload))
-  where
-    go : Dec (x .tag ≡ y .tag) → Dec (x .payload ≡ y .payload) → Dec (x ≡ y)
-    go (yes p) (yes q) = yes (ap₂ {C = Row} (λ (tag : ℕ) (p : Payload). record { tag = tag; payload = p }) p q)
-    go (yes p) (no d) = no (λ e. d (ap (λ (r : Row). r .payload) e))
-    go (no d) q = no (λ e. d (ap (λ (r : Row). r .tag) e))
+row-discrete =
+    both-discrete (λ r. r .tag) (λ r. r .payload) (λ x y. ap₂ (λ (tag : ℕ) (p : Payload). record { tag = tag; payload = p })) ℕ-discrete payload-discrete
 
 abbrev pub UniqueTags : List Row → Type 0
 UniqueTags = Unique (λ r. r .tag)
