@@ -4,7 +4,7 @@
  * doubt) as they are set, cleared and given new readings. A look-back tells what stood at any past second and since
  * when; it lists at most twice as many blocks as were open then. The code is written in Rattle, and a checker has
  * proved that each call answers and writes what its definition says for every content of the lent words, honest or not.
- * Document 01 is the paper that it renders, docs/LAYOUT.md has the words of a store.
+ * It renders document 01, with request 1 of document 02 (since); docs/LAYOUT.md has the words of a store.
  *
  * AN EXAMPLE. It prints `tag 3: -25 daN since 10`: what stood at second 11 of tag 3, set at 10 and cleared at 12.
  *
@@ -49,7 +49,8 @@
  * the store with the rest of the journal will not do). Leave out the entries that were refused then: a start that found
  * its store too short might now be accepted. Lend the words that the largest start left needs now, and replay: all must
  * be accepted. README.md, "Versions", has more, also for those who have no whole journal.
- * A row had two words before 0.3.0 and has three now. Compile programs anew, and where one finds its rows itself
+ * A row had two words before 0.3.0 and has three now. Compile programs anew. Where one has a row buffer's length as a
+ * number, use REGISTER_ROW_WORDS: one of 2D words is refused with REGISTER_SHORT_BUFFER. Where one finds its rows itself
  * (rows[2 * i]), use REGISTER_TAG_OF, REGISTER_READING_OF and REGISTER_SINCE_OF.
  *
  * WHAT IS ASSUMED OF A CALLER, as Rust's borrows give it:
@@ -133,7 +134,7 @@ enum register_result {
 
     /* The head has another mark than 7001, settings outside limits, N above B, clock OPEN, one of its last six words
      * not zero, or a fill not 1 to b (not 0, for N = 0): the store was never started, or something else wrote it.
-     * Start it, or take an older copy. */
+     * Start it, or take an older copy, of this version. */
     REGISTER_HEAD = 3,
 
     /* The store is shorter than its layout. Lend REGISTER_WORDS words; see VERSIONS if they were enough before. */
@@ -157,11 +158,12 @@ enum register_result {
     /* A clear or new reading of a tag that does not stand. Set it. */
     REGISTER_NOT_STANDING = 10,
 
-    /* The row buffer has fewer than REGISTER_ROW_WORDS words, or the list fewer than REGISTER_LIST_WORDS. */
+    /* The row buffer has fewer than REGISTER_ROW_WORDS words, or the list fewer than REGISTER_LIST_WORDS; see VERSIONS
+     * if they were enough before. */
     REGISTER_SHORT_BUFFER = 11,
 
     /* A link, place or tag that the call needs is unsound: something else wrote the store. It is proved that this never
-     * comes after calls alone. Take an older copy, or rebuild the store from a journal. */
+     * comes after calls alone. Take an older copy, of this version, or rebuild the store from a journal. */
     REGISTER_UNSOUND = 12,
 
     /* The change would open a block, and N = B. Keep this store for look-backs, and start another, or a larger one:

@@ -23,7 +23,7 @@ pub enum Refusal {
     /// The store has fewer than 16 words, so not even a head: lend [`Settings::words`](crate::Settings::words) words.
     ShortHead = 2,
     /// The head is none that a start or a change leaves: this store was never started, or was overwritten. Start it,
-    /// or take an older copy of it.
+    /// or take an older copy of it, of this [version](crate#versions).
     Head = 3,
     /// The store is shorter than the layout of its settings: lend [`Settings::words`](crate::Settings::words) words,
     /// or all of a store that was cut short. One of an older [version](crate#versions) is shorter, too.
@@ -45,7 +45,8 @@ pub enum Refusal {
     /// fewer than [`Settings::list_words`](crate::Settings::list_words): lend longer ones.
     ShortBuffer = 11,
     /// A link, place or tag that the call needs is unsound: something else wrote the store. It is proved that this
-    /// never comes after calls alone. Take an older copy of the store, or rebuild it from a journal.
+    /// never comes after calls alone. Take an older copy of the store, of this [version](crate#versions), or rebuild it
+    /// from a journal.
     Unsound = 12,
     /// The change would open a block and none is left: keep this store for look-backs, and start another. The
     /// repository's README.md, "When blocks run out", tells how.

@@ -1,6 +1,6 @@
 //! An independent implementation of document 01, with the since word of document 02, in safe Rust. It shares no code
-//! with the Rattle crates and was written without a look at them; what it shares with [`crate::Proved`] is the store's
-//! layout, word for word.
+//! with the Rattle crates; what it shares with [`crate::Proved`] is the store's layout, word for word. What is document
+//! 01's was written without a look at those crates; since was added together with theirs.
 //!
 //! `head` reads and tests the first 16 words, `parts` cuts the lent store, `sound` holds the tests of a change before
 //! its first write, `change` the writes, `look` the look-back.
