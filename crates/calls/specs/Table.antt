@@ -66,11 +66,11 @@ pub record Since : Type 0 where
   pub before : seenAt (wordsAfter fresh (Set 1 1 25 ∷ Update 3 1 30 ∷ [])) 2 ≡ view (row 1 25 1 ∷ []) (1 ∷ []) onePage 1
   pub new-reading : seenAt (wordsAfter fresh (Set 1 1 25 ∷ Update 3 1 30 ∷ [])) 3 ≡ view (row 1 30 3 ∷ []) (1 ∷ []) onePage 1
   pub same-reading : seenAt (wordsAfter fresh (Set 1 1 25 ∷ Update 3 1 25 ∷ [])) 3 ≡ view (row 1 25 3 ∷ []) (1 ∷ []) onePage 1
+  -- the lent words of a look-back, full of 77 before: three a row, tag, reading, since; words after the rows and after the list keep their contents
+  pub row-words : step (wordsAfter fresh (Set 1 2 25 ∷ Set 4 7 30 ∷ [])) (Ask (LookBack 4 (replicate 48 77) (replicate 8 77))) .lent
+      ≡ (2 ∷ 25 ∷ 1 ∷ 7 ∷ 30 ∷ 4 ∷ replicate 42 77) ∷ (1 ∷ replicate 7 77) ∷ []
   -- "however often the record was copied": at 13 tag 4 has been copied twice
   pub copied-twice : seenAt after13 13 ≡ view (row 8 3 10 ∷ row 4 140 4 ∷ []) (3 ∷ 2 ∷ []) onePage 1
-  -- the lent words of that look-back, full of 77 before: three a row, tag, reading, since; words after the rows and after the list keep their contents
-  pub row-words : step after13 (Ask (LookBack 13 (replicate 48 77) (replicate 8 77))) .lent
-      ≡ (8 ∷ 3 ∷ 10 ∷ 4 ∷ 140 ∷ 4 ∷ replicate 42 77) ∷ (3 ∷ 2 ∷ replicate 6 77) ∷ []
 
 pub record Slips : Type 0 where
   -- the acceptor is not judged on a clear, though none stands in it

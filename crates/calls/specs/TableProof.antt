@@ -26,7 +26,7 @@ set-refused ws s tag reading n e = rw (e, ne-eqb (suc n) 0 (omega arith))
 -- ---- the parts of the table are proved one by one, because a declaration may take only so many steps of the prover
 since : Since
 unfolding fresh after7 after8 after13 openTests openPrograms openWalk
-since = record { before = refl; new-reading = refl; same-reading = refl; copied-twice = refl; row-words = refl }
+since = record { before = refl; new-reading = refl; same-reading = refl; row-words = refl; copied-twice = refl }
 
 slips : Slips
 unfolding fresh openTests openPrograms openWalk
