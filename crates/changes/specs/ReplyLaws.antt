@@ -54,43 +54,42 @@ carried-out l ws p {h} {r} {us} e m =
     let left = run (over (headOf ws .settings)) (p (headOf ws)) ws in
     reply-done l ws (calls.Done (onward (headOf ws) (left .0))) (left .1) (g .0) (ap calls.Done (next-head n)) (sym (n .ran .words))
 
--- ---- where it goes on, its program may run
-module _ (ws : List ℕ) (s : ℕ) where
-  pub advance-able : {h : Head} → verdict (timeTests ws s []) (headOf ws) ≡ verdict.Go h
-      → Able (h .settings) (advanceProgram (h .settings) (h .cursor) s) ws
-  advance-able {h} e = let t = go-time ws s e in held-able (t .ready .held) (advance-over (t .ready .head .sound) (wordsOf h ws) s)
+-- ---- where it goes on, its program may run, whatever second and reading it is handed
+pub advance-able : (ws : List ℕ) (s now : ℕ) {h : Head} → verdict (timeTests ws s []) (headOf ws) ≡ verdict.Go h
+    → Able (h .settings) (advanceProgram (h .settings) (h .cursor) now) ws
+advance-able ws s now {h} e = let t = go-time ws s e in held-able (t .ready .held) (advance-over (t .ready .head .sound) (wordsOf h ws) now)
 
-  module _ (tag : ℕ) where
-    pub set-able : (reading : ℕ) {h : Head} → verdict (setTests ws (wordsRead ws) s tag) (headOf ws) ≡ verdict.Go h
-        → Able (h .settings) (setProgram (h .settings) (h .cursor) s tag reading) ws
-    set-able reading {h} e =
-        let t = go-set ws s tag e in
-        held-able (t .time .ready .held) (set-over (t .time .ready .head .sound) (wordsOf h ws) s tag (t .has-tag) reading (t .sound) (t .room))
+pub set-able : (ws : List ℕ) (s now tag reading : ℕ) {h : Head} → verdict (setTests ws (wordsRead ws) s tag) (headOf ws) ≡ verdict.Go h
+    → Able (h .settings) (setProgram (h .settings) (h .cursor) now tag reading) ws
+set-able ws s now tag reading {h} e =
+    let t = go-set ws s tag e in
+    held-able (t .time .ready .held) (set-over (t .time .ready .head .sound) (wordsOf h ws) now tag (t .has-tag) reading (t .sound) (t .room))
 
-    clear-able : {h : Head} → verdict (clearTests 0 ws (wordsRead ws) s tag) (headOf ws) ≡ verdict.Go h
-        → Able (h .settings) (clearProgram (h .settings) (h .cursor) s tag) ws
-    clear-able {h} e =
-        let t = go-clear ws s 0 tag e in
-        held-able (t .time .ready .held) (clear-over (t .time .ready .head .sound) (wordsOf h ws) s tag (t .has-tag) (t .standing) (t .sound) (t .room))
+module _ (ws : List ℕ) (s tag : ℕ) where
+  clear-able : {h : Head} → verdict (clearTests 0 ws (wordsRead ws) s tag) (headOf ws) ≡ verdict.Go h
+      → Able (h .settings) (clearProgram (h .settings) (h .cursor) s tag) ws
+  clear-able {h} e =
+      let t = go-clear ws s 0 tag e in
+      held-able (t .time .ready .held) (clear-over (t .time .ready .head .sound) (wordsOf h ws) s tag (t .has-tag) (t .standing) (t .sound) (t .room))
 
-    update-able : (reading : ℕ) {h : Head} → verdict (clearTests 1 ws (wordsRead ws) s tag) (headOf ws) ≡ verdict.Go h
-        → Able (h .settings) (updateProgram (h .settings) (h .cursor) s tag reading) ws
-    update-able reading {h} e =
-        let t = go-clear ws s 1 tag e in
-        held-able (t .time .ready .held)
-        (update-over (t .time .ready .head .sound) (wordsOf h ws) s tag (t .has-tag) (t .standing) reading (t .sound) (t .room))
+  update-able : (reading : ℕ) {h : Head} → verdict (clearTests 1 ws (wordsRead ws) s tag) (headOf ws) ≡ verdict.Go h
+      → Able (h .settings) (updateProgram (h .settings) (h .cursor) s tag reading) ws
+  update-able reading {h} e =
+      let t = go-clear ws s 1 tag e in
+      held-able (t .time .ready .held)
+      (update-over (t .time .ready .head .sound) (wordsOf h ws) s tag (t .has-tag) (t .standing) reading (t .sound) (t .room))
 
-    -- a clear or a new reading; its tag has a place.
-    pub clearing-able : (more reading : ℕ) {h : Head} → more ≤ 1 → verdict (clearTests more ws (wordsRead ws) s tag) (headOf ws) ≡ verdict.Go h
-        → Able (h .settings) (clearingProgram more (h .settings) (h .cursor) s tag reading) ws
-    clearing-able zero reading l e =
-        let a = clear-able e in record { within = a .within; memory = a .memory; agree = a .agree; safe = a .safe }
-    clearing-able (suc zero) reading l e =
-        let a = update-able reading e in record { within = a .within; memory = a .memory; agree = a .agree; safe = a .safe }
-    clearing-able (suc (suc n)) reading l e = absurd (omega arith)
+  -- a clear or a new reading; its tag has a place.
+  pub clearing-able : (more reading : ℕ) {h : Head} → more ≤ 1 → verdict (clearTests more ws (wordsRead ws) s tag) (headOf ws) ≡ verdict.Go h
+      → Able (h .settings) (clearingProgram more (h .settings) (h .cursor) s tag reading) ws
+  clearing-able zero reading l e =
+      let a = clear-able e in record { within = a .within; memory = a .memory; agree = a .agree; safe = a .safe }
+  clearing-able (suc zero) reading l e =
+      let a = update-able reading e in record { within = a .within; memory = a .memory; agree = a .agree; safe = a .safe }
+  clearing-able (suc (suc n)) reading l e = absurd (omega arith)
 
-    pub clearing-listed : (more : ℕ) {h : Head} → verdict (clearTests more ws (wordsRead ws) s tag) (headOf ws) ≡ verdict.Go h → Listed (h .settings) ws tag
-    clearing-listed more {h} e = let t = go-clear ws s more tag e in let d = t .standing in record { some = omega (arith, d) }
+  pub clearing-listed : (more : ℕ) {h : Head} → verdict (clearTests more ws (wordsRead ws) s tag) (headOf ws) ≡ verdict.Go h → Listed (h .settings) ws tag
+  clearing-listed more {h} e = let t = go-clear ws s more tag e in let d = t .standing in record { some = omega (arith, d) }
 
 -- ---- a start
 module _ (ws : List ℕ) (s : Settings) where

@@ -111,6 +111,11 @@ module _ {s : Settings} {ws : List ℕ} (c : Cursor) (now tag : ℕ) (p : Payloa
   unfolding putRecord
   put-tag = able-set (Dir tag) (able-first (able-rest (able-rest (able-rest (able-rest (able-rest (able-rest a)))))))
 
+  -- which words it writes does not depend on what the record tells
+  pub any-payload : (q : Payload) → Able s (putRecord s c now tag q) ws
+  unfolding putRecord over
+  any-payload q = record { within = a .within; memory = a .memory; agree = a .agree; safe = a .safe }
+
 -- ---- blocks
 module _ {s : Settings} {ws : List ℕ} (c : Cursor) (now : ℕ) (a : Able s (openBlock c now) ws) where
   -- block N + 1 is one of the store's, and so is block N, if any

@@ -67,7 +67,7 @@ pub fn tables(settings: &[Setting], growth: &[(u32, Vec<Growth>)]) -> String {
     absolute(settings, &mut text);
     text.push_str("\n### What a look-back reads\n\n");
     reads(settings, &mut text);
-    text.push_str("\n### Growth with history length\n\n");
+    text.push_str("\n### Growth with history length, look-backs at recent seconds\n\n");
     growths(growth, &mut text);
     text
 }
@@ -146,7 +146,7 @@ fn reads(settings: &[Setting], text: &mut String) {
 }
 
 fn growths(growth: &[(u32, Vec<Growth>)], text: &mut String) {
-    text.push_str("| b | changes so far | ns per change: proved | independent | log | µs per recent look-back: proved | independent | log | rows | blocks listed |\n");
+    text.push_str("| b | changes so far | ns per change: proved | independent | log | µs per look-back: proved | independent | log | rows | blocks listed |\n");
     text.push_str("|---|---|---|---|---|---|---|---|---|---|\n");
     for (block, lengths) in growth {
         for at in lengths {

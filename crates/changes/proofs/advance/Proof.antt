@@ -13,7 +13,7 @@ use Rattle.changes.proofs.advance.Tie as tie
 advance-program-requires : tie.Need-advance-program-requires
 advance-program-requires c κs =
     let a = c .before .before .before .before .before .before .before .args in
-    advance-able (a .store .now) (a .second)
+    advance-able (a .store .now) (a .second) _
     (sym (c .before .before .before .before .decide-advance .ensures) ∙ c .before .before .verdict2 .given .1)
 
 returns : tie.Need-returns

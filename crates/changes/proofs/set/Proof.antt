@@ -12,7 +12,7 @@ use Rattle.changes.proofs.set.Tie as tie
 set-program-requires : tie.Need-set-program-requires
 set-program-requires c κs =
     let a = c .before .before .before .before .before .before .before .args in
-    set-able (a .store .now) (a .second) (a .tag) (a .reading)
+    set-able (a .store .now) (a .second) _ (a .tag) _
     (sym (c .before .before .before .before .decide-set .ensures) ∙ c .before .before .verdict2 .given .1)
 
 returns : tie.Need-returns

@@ -13,7 +13,7 @@ use Rattle.decisions.proofs.sound.place_is_bad.Tie as tie
 lies : (c : tie.Else1) → Lies (c .before .before .before .args .h) (c .before .before .before .args .p)
 lies c =
     let entry = c .before .before .before in
-    place-lies _ _ (entry .pre .0 .head .sound) (entry .pre .1 .some) (rw (← (c .before .placed .ensures)) (c .if1 .left))
+    place-lies _ _ (entry .pre .0 .head .sound) (entry .pre .1 .some) (omega (arith, c .before .placed .ensures, c .if1 .left))
 
 returns : tie.Need-returns
 returns c =

@@ -4,6 +4,7 @@ use Rattle.layout.specs.Ran.{ran-length}
 use Rattle.layout.specs.Able.{able-first, able-next}
 use Rattle.layout.specs.Moved.{onto}
 use Rattle.calls.specs.Placing.{place}
+use Rattle.placing.proofs.AbleLaws.{any-payload}
 use Rattle.placing.proofs.moves.place.Statement.{statement}
 use Rattle.placing.proofs.moves.place.Tie as tie
 
@@ -15,7 +16,7 @@ put-record-requires : tie.Need-put-record-requires
 unfolding place
 put-record-requires c κs =
     let m = c .before .before .before .before .make-room .ensures in
-    rw (m .settings, c .before .told .ensures) (able-next (c .before .before .before .before .before .before .before .pre) (m .ran))
+    rw (m .settings) (any-payload _ _ _ _ (able-next (c .before .before .before .before .before .before .before .pre) (m .ran)) _)
 
 returns : tie.Need-returns
 unfolding place

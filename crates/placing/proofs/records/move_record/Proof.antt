@@ -3,7 +3,7 @@ use Rattle.layout.specs.Ran.{ran-length}
 use Rattle.layout.specs.Able.{able-first, able-next}
 use Rattle.layout.specs.Moved.{after}
 use Rattle.calls.specs.Placing.{moveRecord}
-use Rattle.placing.proofs.AbleLaws.{reads, reads-payload}
+use Rattle.placing.proofs.AbleLaws.{reads, reads-payload, any-payload}
 use Rattle.placing.proofs.records.move_record.Statement.{statement}
 use Rattle.placing.proofs.records.move_record.Tie as tie
 
@@ -28,7 +28,7 @@ put-record-requires c κs =
     let d = f .before .before in
     let b = d .before .before in
     let a = b .before .before .before in
-    able-next (able-next (able-next (a .before .pre) (b .read .ensures)) (d .read2 .ensures)) (f .end-record .ensures)
+    any-payload _ _ _ _ (able-next (able-next (able-next (a .before .pre) (b .read .ensures)) (d .read2 .ensures)) (f .end-record .ensures)) _
 
 returns : tie.Need-returns
 unfolding moveRecord

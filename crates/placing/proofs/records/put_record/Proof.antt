@@ -1,7 +1,9 @@
 -- `records::put_record` meets its contract: one step after the other.
 use mathlib.Core.Path.{refl}
+use native.Mathlib.Omega.{arith}
+use lib.Dec.{lit≤}
 use borrow.Author.Needs.{needs}
-use Rattle.layout.specs.Fields.{fromWord, toWord}
+use Rattle.layout.specs.Fields.{fromWord}
 use Rattle.layout.specs.Ran.{ran-length}
 use Rattle.layout.specs.Moved.{moves, after}
 use Rattle.calls.specs.Placing.{putRecord}
@@ -27,11 +29,14 @@ write-requires-3 c κs =
     (c .before .before .before .before .before .before .before .before .before .before .before .before .pre))
     (c .before .before .before .write2 .ensures) fromWord refl
 
+-- by arithmetic: any slot up to this one may be written, so that a wrong one is refused for what it leaves
 write-requires-4 : tie.Need-write-requires-4
 write-requires-4 c κs =
-    slot-after (put-spot _ _ _ _
-    (c .before .before .before .before .before .before .before .before .before .before .before .before .before .before .before .before .pre))
-    (c .before .before .before .write3 .ensures) toWord refl
+    let p = put-spot _ _ _ _
+    (c .before .before .before .before .before .before .before .before .before .before .before .before .before .before .before .before .pre) in (
+      (record { low = omega (arith, p .block); high = omega (arith, p .block) }, omega (arith, p .slot), lit≤ tt),
+      (spot-after p (c .before .before .before .write3 .ensures)) .1,
+    )
 
 read-requires : tie.Need-read-requires
 read-requires c κs =
