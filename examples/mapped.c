@@ -131,27 +131,42 @@ static uint32_t change(uint32_t *store, int journal, uint32_t *entry) {
     return refusal;
 }
 
+static uint32_t rows[REGISTER_ROW_WORDS(TAGS)], list[REGISTER_LIST_WORDS(BLOCKS)];
+
+static void print_rows(uint32_t count) {
+    for (uint32_t i = 0; i < count; i++)
+        printf("tag %lu: %ld daN since %lu\n", (unsigned long)REGISTER_TAG_OF(rows, i),
+               (long)REGISTER_READING_OF(rows, i), (unsigned long)REGISTER_SINCE_OF(rows, i));
+}
+
 static uint32_t look(const uint32_t *store, uint32_t second) {
-    static uint32_t rows[REGISTER_ROW_WORDS(TAGS)], list[REGISTER_LIST_WORDS(BLOCKS)];
     uint32_t told[REGISTER_ANSWER_WORDS];
     uint32_t refusal = register_look_back(store, WORDS, second, rows, REGISTER_ROW_WORDS(TAGS),
                                           list, REGISTER_LIST_WORDS(BLOCKS), told);
     if (refusal != 0) return refusal;
     printf("stood at %lu: %lu\n", (unsigned long)second, (unsigned long)told[REGISTER_ROWS]);
-    for (uint32_t i = 0; i < told[REGISTER_ROWS]; i++)
-        printf("tag %lu: %ld daN since %lu\n", (unsigned long)REGISTER_TAG_OF(rows, i),
-               (long)REGISTER_READING_OF(rows, i), (unsigned long)REGISTER_SINCE_OF(rows, i));
+    print_rows(told[REGISTER_ROWS]);
     return 0;
 }
 
-/* A look-back is no entry of a journal; here it has the kind that none has. */
+static uint32_t window(const uint32_t *store, uint32_t first, uint32_t last) {
+    uint32_t told[1];
+    uint32_t refusal = register_window(store, WORDS, first, last, rows, REGISTER_ROW_WORDS(TAGS), told);
+    if (refusal != 0) return refusal;
+    printf("stood from %lu to %lu: %lu\n", (unsigned long)first, (unsigned long)last, (unsigned long)told[0]);
+    print_rows(told[0]);
+    return 0;
+}
+
+/* Look-backs and windows are no entries of a journal; here they have kinds that no entry has. */
+enum { LOOK = 101, WINDOW = 102 };
 static const struct command {
     const char *name;
     uint32_t kind;
     int numbers;
 } commands[] = {
     {"set", REGISTER_ENTRY_SET, 3},         {"clear", REGISTER_ENTRY_CLEAR, 2}, {"update", REGISTER_ENTRY_UPDATE, 3},
-    {"advance", REGISTER_ENTRY_ADVANCE, 1}, {"look", REGISTER_ENTRY_END, 1},
+    {"advance", REGISTER_ENTRY_ADVANCE, 1}, {"look", LOOK, 1},                  {"window", WINDOW, 2},
 };
 
 /* The next number of the line: the third of a command is a reading, which may be negative, the others may not. */
@@ -176,13 +191,21 @@ static int parse(char *line, uint32_t *entry) {
     return strtok(NULL, SPACES) == NULL;
 }
 
+static uint32_t make(uint32_t *store, int journal, uint32_t *entry) {
+    switch (entry[0]) {
+    case LOOK: return look(store, entry[1]);
+    case WINDOW: return window(store, entry[1], entry[2]);
+    default: return change(store, journal, entry);
+    }
+}
+
 /* Refusals 3 and 12 never come after calls alone (that is proved): then something else wrote the mapped file, and what
  * the call answered is no answer. The next start rebuilds the store, with this change if it is one. */
 static void answer(uint32_t *store, int journal, char *line) {
     uint32_t entry[REGISTER_ENTRY_WORDS] = {0}, refusal = 0;
     if (!parse(line, entry)) puts("no command; there are: set SECOND TAG READING, clear SECOND TAG, "
-                                  "update SECOND TAG READING, advance SECOND, look SECOND");
-    else refusal = entry[0] == REGISTER_ENTRY_END ? look(store, entry[1]) : change(store, journal, entry);
+                                  "update SECOND TAG READING, advance SECOND, look SECOND, window FIRST LAST");
+    else refusal = make(store, journal, entry);
     if (refusal == REGISTER_HEAD || refusal == REGISTER_UNSOUND) stop("something else wrote the store; start again");
     if (refusal != 0) printf("refused: %s (refusal %lu)\n", register_refusal_text(refusal), (unsigned long)refusal);
     if (fflush(stdout) != 0) failed("standard output");

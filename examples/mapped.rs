@@ -18,7 +18,7 @@
 //! calls in the same order leave the same words. A refused call stays in the journal, and is refused again.
 //!
 //! For Linux on 64 bits. Words are written as the machine has them: take the files to one with the same order of bytes.
-use register::{Entry, Refusal, Register, Settings};
+use register::{Entry, Refusal, Register, Rows, Settings};
 use std::error::Error;
 use std::fs::{File, OpenOptions};
 use std::io::{self, BufRead, Read, Write};
@@ -140,12 +140,12 @@ fn rebuild<'a>(store: &'a mut [u32], journal: &mut Journal) -> Outcome<Register<
     Ok(register)
 }
 
-const COMMANDS: &str =
-    "set SECOND TAG READING, clear SECOND TAG, update SECOND TAG READING, advance SECOND, look SECOND";
+const COMMANDS: &str = "set SECOND TAG READING, clear SECOND TAG, update SECOND TAG READING, advance SECOND, look SECOND, window FIRST LAST";
 
 enum Command {
     Change(Entry),
     Look(u32),
+    Window(u32, u32),
 }
 
 fn parse(line: &str) -> Option<Command> {
@@ -162,6 +162,7 @@ fn parse(line: &str) -> Option<Command> {
         }
         ["advance", second] => Command::Change(Entry::Advance { second: number(second)? }),
         ["look", second] => Command::Look(number(second)?),
+        ["window", first, last] => Command::Window(number(first)?, number(last)?),
         _ => return None,
     })
 }
@@ -169,8 +170,17 @@ fn parse(line: &str) -> Option<Command> {
 fn look(register: &Register, second: u32) -> Result<String, Refusal> {
     let (mut rows, mut list) = ([0; SETTINGS.row_words()], [0; SETTINGS.list_words()]);
     let told = register.look_back(second, &mut rows, &mut list)?;
-    let lines = told.rows().map(|row| format!("tag {}: {} daN since {}\n", row.tag, row.reading, row.since));
-    Ok(format!("stood at {second}: {}\n", told.rows().len()) + &lines.collect::<String>())
+    Ok(format!("stood at {second}: {}\n", told.rows().len()) + &lines(told.rows()))
+}
+
+fn window(register: &Register, first: u32, last: u32) -> Result<String, Refusal> {
+    let mut rows = [0; SETTINGS.row_words()];
+    let told = register.window(first, last, &mut rows)?;
+    Ok(format!("stood from {first} to {last}: {}\n", told.rows().len()) + &lines(told.rows()))
+}
+
+fn lines(rows: Rows) -> String {
+    rows.map(|row| format!("tag {}: {} daN since {}\n", row.tag, row.reading, row.since)).collect()
 }
 
 /// The answer to a command. [`Refusal::Head`] and [`Refusal::Unsound`] never come after calls alone (that is proved):
@@ -179,6 +189,7 @@ fn look(register: &Register, second: u32) -> Result<String, Refusal> {
 fn answer(register: &mut Register, journal: &mut Journal, line: &str) -> Outcome<String> {
     let told = match parse(line) {
         Some(Command::Look(second)) => look(register, second),
+        Some(Command::Window(first, last)) => window(register, first, last),
         Some(Command::Change(entry)) => {
             journal.append(entry)?; // steps 1 and 2
             register.apply(entry).map(|()| "ok\n".into()) // step 3; the caller prints it, step 4

@@ -2,9 +2,10 @@
  *
  * A register keeps conditions (a tag with a reading in daN: a tension outside its band, a sheave off, a gauge in
  * doubt) as they are set, cleared and given new readings. A look-back tells what stood at any past second and since
- * when; it lists at most twice as many blocks as were open then. The code is written in Rattle, and a checker has
- * proved that each call answers and writes what its definition says for every content of the lent words, honest or not.
- * It renders document 01, with request 1 of document 02 (since); docs/LAYOUT.md has the words of a store.
+ * when; it lists at most twice as many blocks as were open then. A window tells what stood at some second of a span,
+ * such as a closure. The code is written in Rattle, and a checker has proved that each call answers and writes what its
+ * definition says for every content of the lent words, honest or not. It renders document 01, with requests 1 and 2 of
+ * document 02 (since, windows); docs/LAYOUT.md has the words of a store.
  *
  * AN EXAMPLE. It prints `tag 3: -25 daN since 10`: what stood at second 11 of tag 3, set at 10 and cleared at 12.
  *
@@ -41,10 +42,11 @@
  * nothing is allocated. So a store may be copied, saved word for word, mapped from a file, and used again by the next
  * call: there is no opening and no closing. Words beyond its layout are never touched.
  *
- * VERSIONS. A store belongs to one version of the library. Before 0.3.0 a record had no word for since: a store of such
- * a version is shorter, and its records lie elsewhere, but its head has the same mark. In its own length it is refused
- * with REGISTER_SHORT_STORE; with words to spare it may be taken for one of this version, and is misread then. An older
- * library takes a store of this version for its own: no refusal need tell, it misreads it, and a change spoils it.
+ * VERSIONS. A store belongs to one version of the library; only 0.3 and 0.4 have the same stores, and 0.4 adds
+ * register_window. Before 0.3.0 a record had no word for since: a store of such a version is shorter, and its records
+ * lie elsewhere, but its head has the same mark. In its own length it is refused with REGISTER_SHORT_STORE; with words
+ * to spare it may be taken for one of this version, and is misread then. A library before 0.3.0 takes a store of this
+ * version for its own: no refusal need tell, it misreads it, and a change spoils it.
  * A store is carried over by its whole journal, from the first start on, which is the same in all versions (a copy of
  * the store with the rest of the journal will not do). Leave out the entries that were refused then: a start that found
  * its store too short might now be accepted. Lend the words that the largest start left needs now, and replay: all must
@@ -58,15 +60,16 @@
  *  - store, rows, list, journal and answer do not overlap;
  *  - nothing else writes the lent words, or reads those that the call writes, until it returns;
  *  - there is stack: a look-back's visits nest up to B - 1 deep on crafted words, some 190 bytes each on x86-64 (0.8 MB
- *    for B = 4096); the other calls take less than 1 KB.
+ *    for B = 4096); a window takes some 17 KB, for an array of 4096 words; the other calls take less than 1 KB.
  *
  * THREADS. There are no globals and no locks. Calls on different stores have nothing to do with one another. On one
- * store, look-backs may run side by side, each with buffers of its own, as long as nothing writes the store; a start, a
- * change, a clock move or a replay must have it alone.
+ * store, look-backs and windows may run side by side, each with buffers of its own, as long as nothing writes the
+ * store; a start, a change, a clock move or a replay must have it alone.
  *
- * RESULTS. A change or look-back gives 0 if it was accepted, else the number of the first refusal that applies (enum
- * register_result). A refused call leaves all words as they were, except that refusal 12 of a look-back fills rows and
- * list, whole, with zeros. There is no other error: every call ends, and answers for all arguments. */
+ * RESULTS. Each of the seven calls gives 0 if it was accepted, else the number of the first refusal that applies
+ * (enum register_result): they are tested in the order of their numbers, but 14 comes right after 5. A refused call
+ * leaves all words as they were, except that refusal 12 of a look-back fills rows and list, whole, with zeros, and that
+ * of a window its rows. There is no other error: every call ends, and answers for all arguments. */
 #ifndef REGISTER_H
 #define REGISTER_H
 
@@ -79,9 +82,9 @@ extern "C" {
 
 /* The version of this header. Before 1.0 a new minor version may rename or change things. */
 #define REGISTER_VERSION_MAJOR 0
-#define REGISTER_VERSION_MINOR 3
+#define REGISTER_VERSION_MINOR 4
 #define REGISTER_VERSION_PATCH 0
-#define REGISTER_VERSION "0.3.0"
+#define REGISTER_VERSION "0.4.0"
 
 /* ---- Settings and lengths ---------------------------------------------------------------------------------------- */
 
@@ -105,14 +108,14 @@ extern "C" {
 /* Words of a row: tag, reading, since. */
 #define REGISTER_WORDS_PER_ROW 3
 
-/* Words that a look-back's row buffer must have, and its list. */
+/* Words that the row buffer of a look-back or window must have, and a look-back's list. */
 #define REGISTER_ROW_WORDS(tags) (REGISTER_WORDS_PER_ROW * (size_t)(tags))
 #define REGISTER_LIST_WORDS(blocks) ((size_t)(blocks))
 
-/* Tag, reading and since of row i, counted from 0, in a row buffer after a look-back. Since is the second of the
- * condition's last set or new reading, however often the register has copied its record. A monitor that sends the same
- * reading again each minute by register_update makes since the last minute: if since is to tell for how long, send a
- * new reading only when it changed. */
+/* Tag, reading and since of row i, counted from 0, in a row buffer after a look-back or window. Since is the second of
+ * the set or new reading that the row's reading came with, however often the register has copied its record. A monitor
+ * that sends the same reading again each minute by register_update makes since the last minute: if since is to tell for
+ * how long, send a new reading only when it changed. */
 #define REGISTER_TAG_OF(rows, i) ((rows)[REGISTER_WORDS_PER_ROW * (size_t)(i)])
 #define REGISTER_READING_OF(rows, i) ((int32_t)(rows)[REGISTER_WORDS_PER_ROW * (size_t)(i) + 1])
 #define REGISTER_SINCE_OF(rows, i) ((rows)[REGISTER_WORDS_PER_ROW * (size_t)(i) + 2])
@@ -140,13 +143,14 @@ enum register_result {
     /* The store is shorter than its layout. Lend REGISTER_WORDS words; see VERSIONS if they were enough before. */
     REGISTER_SHORT_STORE = 4,
 
-    /* The time is OPEN, which is no second. */
+    /* The time is OPEN, which is no second; of a window either of the two. */
     REGISTER_TIME_OPEN = 5,
 
     /* A change or clock move is earlier than the clock. The past is not changed: pass the clock or a later second. */
     REGISTER_EARLY = 6,
 
-    /* A look-back is later than the clock, of which nothing is known yet. Move the clock first. */
+    /* A look-back, or the last second of a window, is later than the clock, of which nothing is known yet. Move the
+     * clock first. */
     REGISTER_LATE = 7,
 
     /* The tag is D or more. */
@@ -166,9 +170,12 @@ enum register_result {
      * comes after calls alone. Take an older copy, of this version, or rebuild the store from a journal. */
     REGISTER_UNSOUND = 12,
 
-    /* The change would open a block, and N = B. Keep this store for look-backs, and start another, or a larger one:
-     * README.md, "When blocks run out". */
-    REGISTER_OUT_OF_BLOCKS = 13
+    /* The change would open a block, and N = B. Keep this store for look-backs and windows, and start another, or a
+     * larger one: README.md, "When blocks run out". */
+    REGISTER_OUT_OF_BLOCKS = 13,
+
+    /* The last second of a window is before its first. Tested right after 5. */
+    REGISTER_REVERSED = 14
 };
 
 /* A result in plain words, "accepted" for 0; never null. In register_refusal.c, not in the archive. */
@@ -215,11 +222,29 @@ enum register_answer {
 uint32_t register_look_back(const uint32_t *store, size_t words, uint32_t second, uint32_t *rows, size_t rows_words,
                             uint32_t *list, size_t list_words, uint32_t answer[REGISTER_ANSWER_WORDS]);
 
+/* ---- A window ---------------------------------------------------------------------------------------------------- */
+
+/* What stood at some second from first to last, both included: a closure, a shift, a day. last may be the clock, but
+ * not after it (refusal 7): the window is not cut there. rows gets each tag that stood then, once, in ascending order,
+ * with the reading and since of its latest standing there, three words a row (REGISTER_TAG_OF and the others above). A
+ * row does not tell whether the tag still stood at last, nor when it ended; since may lie before first. answer, one
+ * word in an array of its own, gets the number of rows; of a longer array the first word does, and the others are left.
+ * rows must have REGISTER_ROW_WORDS(D) words, also if few rows come; those after the rows keep their contents. A
+ * condition that was set and cleared within a second never shows. With first = last a store that calls alone wrote
+ * gives what a look-back gives, in the order of tags. The store is only read: the heads of all blocks opened so far,
+ * and the blocks opened by last and not closed by first. Of several records of a tag that stood in the window, in these
+ * blocks, the latest is the one with the greatest from, then the greatest place.
+ * Refusals, in this order: 2, 3, 4, 5 (either second is OPEN), 14 (last is before first), 7 (last is after the clock),
+ * 11 (the row buffer), 12 (in these blocks a record that stood in the window has a tag of D or more: something else
+ * wrote the store). Each leaves answer as it was; 12 fills rows, whole, with zeros, the others leave them too. */
+uint32_t register_window(const uint32_t *store, size_t words, uint32_t first, uint32_t last, uint32_t *rows,
+                         size_t rows_words, uint32_t answer[1]);
+
 /* ---- A journal, from which a store is rebuilt -------------------------------------------------------------------- */
 
 /* A journal is a run of words, six an entry: its kind and five numbers, of which a kind uses the first ones and the
  * others are not looked at. Any other kind ends the journal, so that a tail of zeros is no entry, and so does an entry
- * that is cut short. Look-backs are not in it: they leave the store as it is. */
+ * that is cut short. Look-backs and windows are not in it: they leave the store as it is. */
 enum register_entry {
     REGISTER_ENTRY_END = 0,
     REGISTER_ENTRY_START = 1,   /* b, q, B, D */

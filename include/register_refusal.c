@@ -18,6 +18,7 @@ const char *register_refusal_text(uint32_t result) {
     case REGISTER_SHORT_BUFFER: return "the row buffer or the list is too short";
     case REGISTER_UNSOUND: return "a link, place or tag in the store is unsound";
     case REGISTER_OUT_OF_BLOCKS: return "no block is left";
+    case REGISTER_REVERSED: return "the window ends before it begins";
     default: return "no refusal that this version knows";
     }
 }

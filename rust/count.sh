@@ -1,10 +1,10 @@
 #!/bin/sh
 # Counts executed instructions by callgrind, for the proved and the independent register on the same input: of sets,
-# clears, new readings and look-backs apart; and of all changes, which is the sum of the first three.
+# clears, new readings, look-backs and windows apart; and of all changes, which is the sum of the first three.
 #
-# Collection is on only inside `counted_change` and `counted_look_back` (--toggle-collect), through which
-# bench/src/count.rs makes the calls of one kind, so inputs, start, the calls of other kinds and the program's own start
-# are left out. What these two functions execute around a call is counted once more with a register that does nothing,
+# Collection is on only inside `counted_change`, `counted_look_back` and `counted_window` (--toggle-collect), through
+# which bench/src/count.rs makes the calls of one kind, so inputs, start, the calls of other kinds and the program's own
+# start are left out. What these functions execute around a call is counted once more with a register that does nothing,
 # and taken off both. The counts do not depend on the machine's load: two runs give the same numbers. Prints a Markdown
 # table; with a folder as argument, `./count.sh ../docs`, it is also put into that folder's BENCHMARKS.md.
 set -eu
@@ -22,6 +22,7 @@ trap 'rm -rf "$folder"' EXIT
 # The instructions of one kind of call: count WHO WHAT WORK B. How many calls they were is then in $folder/number.
 count() {
     valgrind --tool=callgrind --toggle-collect=counted_change --toggle-collect=counted_look_back \
+        --toggle-collect=counted_window \
         --callgrind-out-file="$folder/out" "$program" count "$1" "$2" "$3" "$4" >"$folder/number" 2>"$folder/said" ||
         { cat "$folder/said" >&2; exit 1; }
     sed -n 's/^summary: //p' "$folder/out"
@@ -31,7 +32,7 @@ count() {
 counts() {
     for work in year stress; do
         for b in 8 16 64; do
-            for what in sets clears readings lookbacks; do
+            for what in sets clears readings lookbacks windows; do
                 nothing=$(count nothing $what $work $b)
                 proved=$(count proved $what $work $b)
                 independent=$(count independent $what $work $b)
@@ -55,6 +56,7 @@ table() {
         $3 == "clears" { row("clears", p, i, n); ps += p; is += i; ns += n }
         $3 == "readings" { row("new readings", p, i, n); row("all changes", ps + p, is + i, ns + n) }
         $3 == "lookbacks" { row("look-backs", p, i, n) }
+        $3 == "windows" { row("windows", p, i, n) }
     ' "$folder/counts"
 }
 

@@ -1,6 +1,6 @@
 """A plain model of the register and its console, for the tools beside it. It follows docs/REGISTER.md with lists and
 objects in place of words; nothing here is proved. tools/check-docs holds it to every case of crates/worked/data, and
-what it tells of each second there, since with it, to the plain log."""
+what it tells of each second there, and of each pair of seconds, since with it, to the plain log."""
 import re
 
 OPEN = 4294967295
@@ -24,6 +24,7 @@ REFUSALS = {
     11: 'a buffer of the look-back is too short',
     12: 'a link, place or tag in the store is unsound',
     13: 'the change needs a new block and none is left',
+    14: 'the window ends before it begins',
 }
 
 
@@ -187,6 +188,13 @@ class Register:
             n = block.up
         return rows, listed
 
+    # ---- the window, both seconds included: rows (tag, reading, since) by tag, and how many blocks are read
+    def window(self, first, last):
+        read = [block for block in self.blocks[1:] if block.opened <= last and first < block.closed]
+        stood = [r for block in read for r in block.records if max(r.start, first) < min(r.end, last + 1)]
+        latest = {r.tag: r for r in sorted(stood, key=lambda r: r.start)}  # of equal starts the last, by place
+        return sorted((r.tag, r.reading, r.since) for r in latest.values()), len(read)
+
 
 class Event:
     """One line of the changes: what was asked, and its refusal (0 if accepted) or what a look-back told."""
@@ -253,6 +261,15 @@ class Run:
             stood.pop(event.tag, None)
             if event.sign in '+=':
                 stood[event.tag] = (event.tag, event.reading, event.second)
+        return sorted(stood.values())
+
+    def turns(self, first, last):
+        """The seconds of a window at which what stands may change: its first, and those of lines in it."""
+        return sorted({first, *(event.second for event in self.events if first < event.second <= last)})
+
+    def log_window(self, first, last):
+        """What stood at some second from first to last, by the accepted changes alone: each tag as it stood last."""
+        stood = {row[0]: row for second in self.turns(first, last) for row in self.log_at(second)}
         return sorted(stood.values())
 
 

@@ -23,9 +23,11 @@ callOf (Update s tag reading) rows list = calls.Update s tag reading
 callOf (Advance s) rows list = calls.Advance s
 callOf (LookBack t) rows list = calls.Ask (calls.LookBack t rows list)
 
+-- (none of these calls answers numbers, and no refusal is 0)
 abbrev pub answerOf : calls.Answer → Answer
 answerOf (calls.Done h) = Done h
 answerOf (calls.Shown v) = Shown (sliceOf v)
+answerOf (calls.Numbers l) = Refused 0
 answerOf (calls.Refused n) = Refused n
 
 -- the two buffers after a call: as a look-back's reply has them; no other call touches them

@@ -1,5 +1,8 @@
 pub mod Branch
 pub mod Sums
+pub mod Lists
+pub mod ListLaws
+pub mod Table
 pub mod Bits
 pub mod Ones
 pub mod Slots

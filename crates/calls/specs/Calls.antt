@@ -10,9 +10,12 @@ use Rattle.layout.specs.declared.payload.Payload.{Payload}
 pub data Query : Type 0 where
   -- what stood at a second; for its rows, and for the reading list
   LookBack : ℕ → List ℕ → List ℕ → Query
+  -- what stood at some second from a first to a last, both included; for its rows
+  Window : ℕ → ℕ → List ℕ → Query
 
 abbrev pub buffersOf : Query → List (List ℕ)
 buffersOf (LookBack t rows list) = rows ∷ list ∷ []
+buffersOf (Window first last rows) = rows ∷ []
 
 -- The calls, with any arguments: a start, four that may change the store, and a question.
 pub data Call : Type 0 where
@@ -46,16 +49,24 @@ pub record View : Type 0 where
   pub pages : List ℕ
   pub counts : Counts
 
--- the next head, for a start, a change or a clock move; a view, for a look-back; or a refusal by its number
+-- the next head, for a start, a change or a clock move; a view, for a look-back; the numbers that any other query answers, in order (a window's rows are
+-- counted); or a refusal by its number
 pub data Answer : Type 0 where
   Done : Head → Answer
   Shown : View → Answer
+  Numbers : List ℕ → Answer
   Refused : ℕ → Answer
 
 abbrev pub accepted : Answer → Bool
 accepted (Done h) = true
 accepted (Shown v) = true
+accepted (Numbers l) = true
 accepted (Refused n) = false
+
+-- what a query answers, and its buffers after it
+pub record QueryReply : Type 0 where
+  pub answer : Answer
+  pub lent : List (List ℕ)
 
 -- the answer with all lent words as the call leaves them: the store, and a query's buffers (none of another call)
 pub record Reply : Type 0 where

@@ -3,7 +3,7 @@
 use mathlib.Core.Path.{_≡_}
 use mathlib.Core.Logic.{_≢_, _↔_}
 use mathlib.Core.Bool.{Bool, true, false, cond, not, _&&_, _||_}
-use mathlib.Core.List.{List, [], _∷_, map, Perm, List·Nodup}
+use mathlib.Core.List.{List, [], _∷_, map, Perm, List·Nodup, List·Memᴰ, Pairwise}
 use Prim.Native.Nat.{ℕ, _+_, _*_, _-_, _^_, _≤_, _<_}
 use lib.Dec.{eqb, ltb}
 use lib.Count.{ones}
@@ -21,15 +21,17 @@ use Rattle.layout.specs.RefusalNumbers.{UNSOUND, OUT-OF-BLOCKS}
 use Rattle.layout.specs.Program.{runOn}
 use Rattle.layout.specs.Head.{headOf, placed}
 use Rattle.layout.specs.Standing.{slots, stands, blockBits}
-use Rattle.layout.specs.Parts.{blockPart, levelPart, pagePart, slotWord}
-use Rattle.calls.specs.Calls.{Query, LookBack, buffersOf, Call, Start, Set, Clear, Update, Advance, Ask, View, Answer, Done, Shown, Refused, accepted}
+use Rattle.layout.specs.Parts.{blockPart, levelPart, pagePart, blockWord, slotWord}
+use Rattle.calls.specs.Calls.{Query, LookBack, Window, buffersOf, Call, Start, Set, Clear, Update, Advance, Ask, Row, View, Answer, Done, Shown, Numbers, Refused, accepted}
 use Rattle.calls.specs.Placing.{placeOf, setProgram, clearProgram, updateProgram, advanceProgram}
 use Rattle.calls.specs.Walk.{Pass, looked, rowOf}
 use Rattle.calls.specs.Refusals.{Test, opens, acceptorCloses, tagBlock, closes, copies, afterClear}
-use Rattle.calls.specs.LookBack.{lookAt, viewOf, rowWords, written, zeros}
+use Rattle.calls.specs.LookBack.{lookAt, viewOf, rowWords, written}
+use Rattle.calls.specs.Range.{PlacedRecord, isRead, stoodIn, zeroed}
+use Rattle.calls.specs.Window.{latest}
 use Rattle.calls.specs.Step.{step, testsOf, wordsRead}
 use Rattle.calls.specs.Book.{Book, recordsIn, openings, closings, openAt}
-use Rattle.calls.specs.Log.{stateAt, soFar, among}
+use Rattle.calls.specs.Log.{stateAt, soFar, among, StoodLast}
 use Rattle.calls.specs.History.{wordsAfter, trace, Account, opening, enters, account, accountTests}
 
 -- ---- EVERY CALL ON ANY WORDS (demands 1 and 2)
@@ -38,7 +40,7 @@ pub data First : List Test → ℕ → Type 0 where
   here : {x : Test} {l : List Test} → x .applies ≡ true → First (x ∷ l) (x .number)
   later : {x : Test} {l : List Test} {n : ℕ} → x .applies ≡ false → First l n → First (x ∷ l) n
 
--- the buffers that a call is lent, and what refusal 12 makes of them
+-- the buffers that a call is lent
 abbrev pub lentBy : Call → List (List ℕ)
 lentBy (Start s) = []
 lentBy (Set s tag reading) = []
@@ -46,9 +48,6 @@ lentBy (Clear s tag) = []
 lentBy (Update s tag reading) = []
 lentBy (Advance s) = []
 lentBy (Ask q) = buffersOf q
-
-abbrev pub zeroed : List (List ℕ) → List (List ℕ)
-zeroed l = map zeros l
 
 -- ---- ONE CHANGE opens at most one block and closes at most two
 -- every call but a start
@@ -108,24 +107,36 @@ module _ (h : Head) (f : Memory) where
   ForetoldOf (Advance s) = Foretold h f s 0 (λ n. false) (runOn (advanceProgram (h .settings) (h .cursor) s) f)
   ForetoldOf (Ask q) = Unit {0}
 
--- ---- what may be answered to which call
-abbrev pub NoView : Answer → Type 0
-NoView (Done h) = Unit {0}
-NoView (Shown v) = ⊥
-NoView (Refused n) = Unit {0}
+-- ---- what may be answered to which call, a refusal aside: a head, a view, or numbers
+abbrev pub OnlyHead : Answer → Type 0
+OnlyHead (Done h) = Unit {0}
+OnlyHead (Shown v) = ⊥
+OnlyHead (Numbers l) = ⊥
+OnlyHead (Refused n) = Unit {0}
 
-abbrev pub NoHead : Answer → Type 0
-NoHead (Done h) = ⊥
-NoHead (Shown v) = Unit {0}
-NoHead (Refused n) = Unit {0}
+abbrev pub OnlyView : Answer → Type 0
+OnlyView (Done h) = ⊥
+OnlyView (Shown v) = Unit {0}
+OnlyView (Numbers l) = ⊥
+OnlyView (Refused n) = Unit {0}
+
+abbrev pub OnlyNumbers : Answer → Type 0
+OnlyNumbers (Done h) = ⊥
+OnlyNumbers (Shown v) = ⊥
+OnlyNumbers (Numbers l) = Unit {0}
+OnlyNumbers (Refused n) = Unit {0}
+
+abbrev pub QueryKind : Query → Answer → Type 0
+QueryKind (LookBack t rows list) = OnlyView
+QueryKind (Window first last rows) = OnlyNumbers
 
 abbrev pub KindOf : Call → Answer → Type 0
-KindOf (Start s) a = NoView a
-KindOf (Set s tag reading) a = NoView a
-KindOf (Clear s tag) a = NoView a
-KindOf (Update s tag reading) a = NoView a
-KindOf (Advance s) a = NoView a
-KindOf (Ask q) a = NoHead a
+KindOf (Start s) a = OnlyHead a
+KindOf (Set s tag reading) a = OnlyHead a
+KindOf (Clear s tag) a = OnlyHead a
+KindOf (Update s tag reading) a = OnlyHead a
+KindOf (Advance s) a = OnlyHead a
+KindOf (Ask q) a = QueryKind q a
 
 pub record EveryCall (ws : List ℕ) (c : Call) : Type 0 where
   -- a call is accepted if and only if no listed refusal applies
@@ -135,10 +146,10 @@ pub record EveryCall (ws : List ℕ) (c : Call) : Type 0 where
   -- all words are then as before
   pub store-kept : (n : ℕ) → step ws c .answer ≡ Refused n → step ws c .store ≡ ws
   pub buffers-kept : (n : ℕ) → step ws c .answer ≡ Refused n → n ≢ UNSOUND → step ws c .lent ≡ lentBy c
-  -- except that refusal 12 of a look-back fills both its buffers with zeros
+  -- except that refusal 12 of a query fills its buffers with zeros: both of a look-back, the row buffer of a window
   pub buffers-zero : step ws c .answer ≡ Refused UNSOUND → step ws c .lent ≡ zeroed (lentBy c)
-  -- a query is answered with no head, and any other call with no view: an accepted change hands back the next head
-  pub head-or-view : KindOf c (step ws c .answer)
+  -- a look-back is answered with a view, a window with numbers, any other call with a head: an accepted change hands back the next head
+  pub of-its-kind : KindOf c (step ws c .answer)
   -- the head that is handed back is the head of the words left
   pub head-stored : (h : Head) → step ws c .answer ≡ Done h → headOf (step ws c .store) ≡ h
   -- what the tests foretell
@@ -157,6 +168,26 @@ pub record AnyBlock : Type 0 where
   -- "how many stand is the number of ones", of both words
   pub number-of-ones : (b : Standing) → b .low < 2 ^ 32 → b .high < 2 ^ 32 → length (slots b) ≡ ones (b .low) + ones (b .high)
 
+-- ---- ANY RECORDS THAT A WINDOW READS
+-- a record stands at some second of a range
+pub record AtSome (first last : ℕ) (r : PlacedRecord) : Type 0 where
+  pub second : ℕ
+  pub inside : (first ≤ second) × (second ≤ last)
+  pub stands : (r .from ≤ second) × (second < r .to)
+
+-- x is one of l, and none has a greater from or, with its from, a greater place
+pub record Greatest (l : List PlacedRecord) (x : PlacedRecord) : Type 0 where
+  pub member : List·Memᴰ x l
+  pub from : (y : PlacedRecord) → List·Memᴰ y l → y .from ≤ x .from
+  pub place : (y : PlacedRecord) → List·Memᴰ y l → y .from ≡ x .from → y .place ≤ x .place
+
+pub record AnyRecords : Type 0 where
+  -- a record "stood in the window" exactly if it stood at some second of it
+  pub stood : (first last : ℕ) (r : PlacedRecord) → first ≤ last → (stoodIn first last r ≡ true) ↔ AtSome first last r
+  -- "Latest is the greatest from, then the greatest place": records have a latest unless there are none
+  pub greatest : (l : List PlacedRecord) (x : PlacedRecord) → latest l ≡ x ∷ [] → Greatest l x
+  pub none : (l : List PlacedRecord) → latest l ≡ [] → l ≡ []
+
 -- ---- A STORE ALIKE, on any words (demand 3, last sentence)
 -- in length, head, index pages passed and listed blocks
 pub record Alike (ws ws′ : List ℕ) (v : View) : Type 0 where
@@ -173,6 +204,26 @@ pub record StoreAlike (ws : List ℕ) (t : ℕ) (rows list : List ℕ) : Type 0 
         answer = Shown v;
         store = ws′;
         lent = step ws (Ask (LookBack t rows list)) .lent;
+      }
+
+-- alike in length, head, opened and closed of blocks 1 to N, and the blocks of these that a window reads
+pub record SameBlocks (ws ws′ : List ℕ) (first last : ℕ) : Type 0 where
+  pub long : length ws′ ≡ length ws
+  pub head : take headLen ws′ ≡ take headLen ws
+  pub seconds : (n : ℕ) → 1 ≤ n → n ≤ headOf ws .cursor .opened
+      → let s = headOf ws .settings in
+      (blockWord (blockPart s ws′ n) openedWord ≡ blockWord (blockPart s ws n) openedWord)
+      × (blockWord (blockPart s ws′ n) closedWord ≡ blockWord (blockPart s ws n) closedWord)
+  pub blocks : (n : ℕ) → 1 ≤ n → n ≤ headOf ws .cursor .opened → isRead first last (blockPart (headOf ws .settings) ws n) ≡ true
+      → blockPart (headOf ws .settings) ws′ n ≡ blockPart (headOf ws .settings) ws n
+
+-- gets the same answer, a refusal too, and leaves the same words in the buffer
+pub record WindowAlike (ws : List ℕ) (first last : ℕ) (rows : List ℕ) : Type 0 where
+  pub same-answer : (ws′ : List ℕ) → SameBlocks ws ws′ first last
+      → step ws′ (Ask (Window first last rows)) ≡ record {
+        answer = step ws (Ask (Window first last rows)) .answer;
+        store = ws′;
+        lent = step ws (Ask (Window first last rows)) .lent;
       }
 
 -- ---- THE STORE AGREES WITH THE BOOK
@@ -220,6 +271,27 @@ pub record Asked (a : Account) (t : ℕ) (rows list : List ℕ) : Type 0 where
   pub row-room : rowLen * a .settings .tags ≤ length rows
   pub list-room : a .settings .blocks ≤ length list
 
+-- ---- AN ANSWERED WINDOW (document 02, request 2), with the numbers l
+pub record Crossed (ws : List ℕ) (a : Account) (first last : ℕ) (buffer l : List ℕ) : Type 0 where
+  pub rows : List Row
+  -- "the answer is their number"
+  pub counted : l ≡ length rows ∷ []
+  -- the buffer holds them; words after them keep their contents
+  pub given : step ws (Ask (Window first last buffer)) .lent ≡ written (rowWords rows) buffer ∷ []
+  -- "each tag .. once, .. in ascending tag order"
+  pub ascending : Pairwise (λ x y. x < y) (map (λ r. r .tag) rows)
+  -- "each tag that stood at some second of the window .. with the reading of its latest standing there": a row exactly where the log has it
+  pub log : (r : Row) → List·Memᴰ r rows ↔ StoodLast (a .log) first last r
+  -- so every tag that stood at some second of it has a row
+  pub stood : (t tag : ℕ) → first ≤ t → t ≤ last → among tag (stateAt (a .log) t) ≡ true → among tag rows ≡ true
+
+-- a window is answered exactly if t1 ≤ t2 < OPEN, t2 is not after the clock and the buffer is long enough
+pub record WindowAsked (a : Account) (first last : ℕ) (rows : List ℕ) : Type 0 where
+  pub order : first ≤ last
+  pub second : last < OPEN
+  pub past : last ≤ a .clock
+  pub row-room : rowLen * a .settings .tags ≤ length rows
+
 -- ---- WHAT THE WORDS OF A STORE MEAN (document 01, "The lent store"), after a history
 -- the record of a tag that stands lies in slot k of block n
 pub record StandsAt (ws : List ℕ) (tag n k : ℕ) : Type 0 where
@@ -254,6 +326,9 @@ pub record Holds (ws : List ℕ) (a : Account) : Type 0 where
   -- a look-back is answered whenever it may be asked
   pub answered-iff : (t : ℕ) (rows list : List ℕ) → (accepted (step ws (Ask (LookBack t rows list)) .answer) ≡ true) ↔ Asked a t rows list
   pub answered : (t : ℕ) (rows list : List ℕ) (v : View) → step ws (Ask (LookBack t rows list)) .answer ≡ Shown v → Answered ws a t rows list v
+  -- and a window, for every pair of seconds
+  pub window-iff : (first last : ℕ) (rows : List ℕ) → (accepted (step ws (Ask (Window first last rows)) .answer) ≡ true) ↔ WindowAsked a first last rows
+  pub window : (first last : ℕ) (rows l : List ℕ) → step ws (Ask (Window first last rows)) .answer ≡ Numbers l → Crossed ws a first last rows l
   -- "A look-back at the clock tells the state so far."
   pub so-far : stateAt (a .log) (a .clock) ≡ soFar (a .log)
   -- "one set and cleared within a second never shows": with it every second tells what it told before
@@ -263,6 +338,7 @@ pub record Holds (ws : List ℕ) (a : Account) : Type 0 where
   pub means : Means ws a
   -- and whatever the other words are, a store alike gets the same answer
   pub alike : (t : ℕ) (rows list : List ℕ) → StoreAlike ws t rows list
+  pub window-alike : (first last : ℕ) (rows : List ℕ) → WindowAlike ws first last rows
 
 -- ---- THE WHOLE LIST (demand 3): a store of any length as an accepted start left it, then any calls, refused ones included
 pub record WholeList (ws : List ℕ) (s : Settings) (calls : List Call) : Type 0 where

@@ -7,9 +7,9 @@ use lib.Dec.{ltb, leb}
 use lib.ListN.{length}
 use Rattle.layout.specs.declared.settings.Settings.{Settings}
 use Rattle.layout.specs.Sizes.{rowLen, layoutLen}
-use Rattle.layout.specs.RefusalNumbers.{SETTINGS, SHORT-STORE, TIME-OPEN, EARLY, LATE, TAG, STANDING, NOT-STANDING, SHORT-BUFFER, OUT-OF-BLOCKS}
+use Rattle.layout.specs.RefusalNumbers.{SETTINGS, SHORT-STORE, TIME-OPEN, EARLY, LATE, TAG, STANDING, NOT-STANDING, SHORT-BUFFER, OUT-OF-BLOCKS, REVERSED}
 use Rattle.layout.specs.Settings.{inLimits}
-use Rattle.calls.specs.Calls.{Query, LookBack, Call, Start, Set, Clear, Update, Advance, Ask, accepted}
+use Rattle.calls.specs.Calls.{Query, LookBack, Window, Call, Start, Set, Clear, Update, Advance, Ask, accepted}
 use Rattle.calls.specs.Refusals.{Test, isOpen}
 use Rattle.calls.specs.Step.{step}
 use Rattle.calls.specs.Book.{Book, emptyBook, bookSet, bookClear, bookUpdate}
@@ -82,6 +82,11 @@ accountQuery a (LookBack t rows list) =
     record { number = TIME-OPEN; applies = isOpen t }
     ∷ record { number = LATE; applies = ltb (a .clock) t }
     ∷ record { number = SHORT-BUFFER; applies = ltb (length rows) (rowLen * a .settings .tags) || ltb (length list) (a .settings .blocks) } ∷ []
+accountQuery a (Window first last rows) =
+    record { number = TIME-OPEN; applies = isOpen first || isOpen last }
+    ∷ record { number = REVERSED; applies = ltb last first }
+    ∷ record { number = LATE; applies = ltb (a .clock) last }
+    ∷ record { number = SHORT-BUFFER; applies = ltb (length rows) (rowLen * a .settings .tags) } ∷ []
 
 abbrev pub accountTests : ℕ → Account → Call → List Test
 accountTests words a (Start s) =

@@ -3,6 +3,8 @@ pub mod Placing
 pub mod Walk
 pub mod Refusals
 pub mod LookBack
+pub mod Range
+pub mod Window
 pub mod Step
 pub mod Book
 pub mod Log

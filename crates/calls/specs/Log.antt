@@ -1,7 +1,8 @@
 -- THE PLAIN LOG: the accepted changes in order, and the state that it tells for a second.
+use mathlib.Core.Path.{_≡_}
 use mathlib.Core.Bool.{Bool, false, cond, _||_}
-use mathlib.Core.List.{List, [], _∷_, _++_}
-use Prim.Native.Nat.{ℕ}
+use mathlib.Core.List.{List, [], _∷_, _++_, List·Memᴰ}
+use Prim.Native.Nat.{ℕ, _≤_, _<_}
 use lib.Dec.{eqb, leb}
 use Rattle.layout.specs.declared.payload.Payload.{Payload}
 use Rattle.layout.specs.Payload.{newPayload}
@@ -56,3 +57,11 @@ soFar log = madeFrom [] log
 abbrev pub among : ℕ → List Row → Bool
 among tag [] = false
 among tag (r ∷ l) = eqb (r .tag) tag || among tag l
+
+-- ---- what the log tells of a window from a first to a last second, both included (document 02, request 2): the row of a tag that stood at some second of
+-- it, as it was at the last such second
+pub record StoodLast (log : Log) (first last : ℕ) (r : Row) : Type 0 where
+  pub at : ℕ
+  pub inside : (first ≤ at) × (at ≤ last)
+  pub stands : List·Memᴰ r (stateAt log at)
+  pub latest : (t : ℕ) → at < t → t ≤ last → among (r .tag) (stateAt log t) ≡ false

@@ -1,4 +1,5 @@
--- What a row of a table computes with, in three groups, each opened by one name: to unfold a definition is to unfold whatever its own line names.
+-- What a row of a table computes with, in four groups, each opened by one name: to unfold a definition is to unfold whatever its own line names.
+use Rattle.base.specs.Lists.{joined}
 use Rattle.base.specs.Bits.{bitAt, withBit, withoutBit}
 use Rattle.base.specs.Ones.{bitsFrom}
 use Rattle.base.specs.Slots.{slotsOf}
@@ -14,6 +15,8 @@ use Rattle.layout.specs.OnWords.{over}
 use Rattle.calls.specs.Placing.{enterTime, openBlock, unlink, endRecord, standing, putRecord, moveRecord, closeFull, judgeFull, roll, makeRoom, place, replace, close, judge, clearTag, finish, setProgram, clearProgram, updateProgram, advanceProgram}
 use Rattle.calls.specs.Walk.{lastUpTo, entries, topLevel, lookUp, descend, search, rowOf, rowsOf, neighbour, visit, path, look}
 use Rattle.calls.specs.LookBack.{reader, lookAt, lookBack}
+use Rattle.calls.specs.Range.{isRead, blockRecords, readRecords, stoodIn, crossing}
+use Rattle.calls.specs.Window.{windowRows, unknownTag, window}
 use Rattle.calls.specs.Book.{writes}
 use Rattle.calls.specs.Refusals.{badPlace, badBlock, unsoundSet, unsoundClear, blocksOut}
 use Rattle.calls.specs.Step.{start, set, clear, update, advance}
@@ -32,3 +35,8 @@ openPrograms = Unit {0}
 unfoldable pub openWalk : Type 0
 unfolding blockLen layoutLen inLimits headOf headWords badHead blockPart levelPart pagePart blockWord slotWord writeWord lastUpTo entries topLevel lookUp descend search rowOf rowsOf neighbour visit path look reader lookAt lookBack
 openWalk = Unit {0}
+
+-- a window
+unfoldable pub openWindow : Type 0
+unfolding joined blockLen layoutLen inLimits headOf headWords badHead blockPart blockWord slotWord writeWord reader isRead blockRecords readRecords stoodIn crossing windowRows unknownTag window
+openWindow = Unit {0}

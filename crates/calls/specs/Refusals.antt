@@ -43,7 +43,7 @@ acceptorCloses h b incoming =
     opens h incoming && (not (eqb (h .cursor .opened) 0)
     && ltb (length (slots (takenUp b (h .cursor .fill) (h .settings .block - h .cursor .fill)))) (h .settings .useful))
 
-abbrev pub anyOf : (ℕ → Bool) → List ℕ → Bool
+abbrev pub anyOf : {A : Type 0} → (A → Bool) → List A → Bool
 anyOf p [] = false
 anyOf p (k ∷ l) = p k || anyOf p l
 
@@ -144,11 +144,13 @@ setTests ws f s tag = timeTests ws s (setOwn (headOf ws) f tag)
 abbrev pub clearTests : ℕ → List ℕ → Memory → ℕ → ℕ → List Test
 clearTests more ws f s tag = timeTests ws s (clearOwn more (headOf ws) f tag)
 
--- a look-back at t with buffers of these lengths; the last test is the walk's
-abbrev pub lookBackTests : List ℕ → ℕ → ℕ → ℕ → Bool → List Test
-lookBackTests ws t rows list unsound =
-    let h = headOf ws in
-    storeTests ws (record { number = TIME-OPEN; applies = isOpen t }
+-- a look-back's own, at t with buffers of these lengths; the last is the walk's
+abbrev pub lookBackOwn : Head → ℕ → ℕ → ℕ → Bool → List Test
+lookBackOwn h t rows list unsound =
+    record { number = TIME-OPEN; applies = isOpen t }
     ∷ record { number = LATE; applies = ltb (h .cursor .clock) t }
     ∷ record { number = SHORT-BUFFER; applies = ltb rows (rowLen * h .settings .tags) || ltb list (h .settings .blocks) }
-    ∷ record { number = UNSOUND; applies = unsound } ∷ [])
+    ∷ record { number = UNSOUND; applies = unsound } ∷ []
+
+abbrev pub lookBackTests : List ℕ → ℕ → ℕ → ℕ → Bool → List Test
+lookBackTests ws t rows list unsound = storeTests ws (lookBackOwn (headOf ws) t rows list unsound)

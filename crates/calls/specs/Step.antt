@@ -11,10 +11,11 @@ use Rattle.layout.specs.Memory.{Memory}
 use Rattle.layout.specs.Program.{Prog, run}
 use Rattle.layout.specs.Head.{freshHead, headOf, withHead, cleared}
 use Rattle.layout.specs.OnWords.{over}
-use Rattle.calls.specs.Calls.{Query, LookBack, Call, Start, Set, Clear, Update, Advance, Ask, Answer, Done, Refused, Reply}
+use Rattle.calls.specs.Calls.{Query, LookBack, Window, Call, Start, Set, Clear, Update, Advance, Ask, Answer, Done, Refused, QueryReply, Reply}
 use Rattle.calls.specs.Placing.{setProgram, clearProgram, updateProgram, advanceProgram}
 use Rattle.calls.specs.Refusals.{Test, refusal, startTests, timeTests, setTests, clearTests, lookBackTests}
 use Rattle.calls.specs.LookBack.{lookAt, isUnsound, lookBack}
+use Rattle.calls.specs.Window.{windowTests, window}
 
 -- a call that is lent the store only: accepted if no test applies, else refused with all words as before
 abbrev pub reply : List Test → List ℕ → Answer → List ℕ → Reply
@@ -51,16 +52,14 @@ unfoldable pub advance : List ℕ → ℕ → Reply
 advance ws s = let h = headOf ws in change (timeTests ws s []) ws (advanceProgram (h .settings) (h .cursor) s)
 
 -- ---- a query: what it answers, and its buffers after it
-pub record QueryReply : Type 0 where
-  pub answer : Answer
-  pub lent : List (List ℕ)
-
 abbrev pub answerTo : List ℕ → Query → QueryReply
 answerTo ws (LookBack t rows list) = let r = lookBack ws t rows list in record { answer = r .answer; lent = r .rows ∷ r .list ∷ [] }
+answerTo ws (Window first last rows) = window ws first last rows
 
 -- its refusals on these words, in order
 abbrev pub queryTests : List ℕ → Query → List Test
 queryTests ws (LookBack t rows list) = lookBackTests ws t (length rows) (length list) (isUnsound (lookAt ws t))
+queryTests ws (Window first last rows) = windowTests ws first last (length rows)
 
 -- ---- any call; a query leaves the store as it is
 abbrev pub step : List ℕ → Call → Reply

@@ -1,5 +1,5 @@
 -- THE PROVED TABLE (document 01, "Proved table (marked P) and edges", with the since and the sizes of document 02, request 1): P1 to P12, the printed
--- case, more of since, and slips to shut out, as one statement about the definitions.
+-- case, more of since, and slips to shut out, as one statement about the definitions. (Windows over the printed case: edges/specs/WindowTable.antt.)
 use mathlib.Core.Path.{_≡_}
 use mathlib.Core.Bool.{true}
 use mathlib.Core.List.{List, [], _∷_, _++_}
@@ -38,8 +38,11 @@ after8 = wordsAfter after7 (Clear 8 1 ∷ [])
 
 -- and on: tags 6 and 7 fill block 2, tag 8 opens block 3; with the clear at 13 only tag 4 stands in block 2, which closes
 -- and copies it to block 3
+abbrev pub upTo13 : List Call
+upTo13 = Set 9 6 1 ∷ Set 9 7 2 ∷ Set 10 8 3 ∷ Clear 11 5 ∷ Clear 12 6 ∷ Clear 13 7 ∷ []
+
 unfoldable pub after13 : List ℕ
-after13 = wordsAfter after8 (Set 9 6 1 ∷ Set 9 7 2 ∷ Set 10 8 3 ∷ Clear 11 5 ∷ Clear 12 6 ∷ Clear 13 7 ∷ [])
+after13 = wordsAfter after8 upTo13
 
 -- what a look-back with buffers of 48 and 8 words answers
 abbrev pub seenAt : List ℕ → ℕ → Answer

@@ -9,7 +9,7 @@ use Rattle.base.specs.Sums.{nil, cons}
 use Rattle.layout.specs.declared.head.Head.{Head}
 use Rattle.layout.specs.Sizes.{layoutLen}
 use Rattle.layout.specs.Head.{headOf}
-use Rattle.layout.specs.HeadLaws.{HeadRead, passes-read, head-read}
+use Rattle.layout.specs.HeadLaws.{HeadRead, passes}
 use Rattle.layout.specs.OnWords.{fits-held}
 use Rattle.calls.specs.Refusals.{Test, refusal, timeTests, setOwn, clearOwn, setTests, clearTests}
 use Rattle.calls.specs.Step.{wordsRead}
@@ -26,7 +26,7 @@ none-time {ws} {s} (cons a (cons b (cons c (cons d (cons e n))))) =
     let long : layoutLen (headOf ws .settings) ≤ length ws = ltb-false _ _ c in
     let known = leb-false _ s d in
     let later : headOf ws .cursor .clock ≤ s = ltb-false s _ e in
-    let head : HeadRead ws (headOf ws) = head-read ws (passes-read ws (ltb-false _ _ a) b) (omega arith) in
+    let head : HeadRead ws (headOf ws) = passes ws (ltb-false _ _ a) (omega arith) b in
     (record { ready = record { head = head; long = long; held = fits-held (record { long = long }) (head .sound .within) }; not-open = known; not-early = later }, n)
 
 none-set : {ws : List ℕ} {s tag : ℕ} → ReadyTime ws (headOf ws) s → NoneApplies (setOwn (headOf ws) (wordsRead ws) tag) → ReadySet ws (headOf ws) s tag

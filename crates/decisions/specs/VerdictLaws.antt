@@ -11,11 +11,9 @@ use borrow.Author.Tests.{ne-eqb, ltb-false, le-ltb}
 use Rattle.base.specs.Branch.{by-test, by-eqb}
 use Rattle.base.specs.Sums.{cons}
 use Rattle.layout.specs.declared.head.Head.{Head}
-use Rattle.layout.specs.declared.head.HeadAnswer.the-variants.{Read}
-use Rattle.layout.specs.declared.head.HeadAnswer.the-variants as answer
 use Rattle.layout.specs.Sizes.{headLen}
 use Rattle.layout.specs.RefusalNumbers.{SHORT-HEAD, HEAD}
-use Rattle.layout.specs.Head.{headOf, badHead, headAnswer, headNumber, headRefusal}
+use Rattle.layout.specs.Head.{headOf, badHead, headRefusal}
 use Rattle.layout.specs.HeadLaws.{head-passes}
 use Rattle.calls.specs.Refusals.{Test, refusal, timeTests}
 use Rattle.decisions.specs.declared.Verdict.{Verdict}
@@ -56,13 +54,13 @@ gone-by l e q = rw (e, q)
 module _ (ws : List ℕ) (s : ℕ) where
   -- where its refusal is n, not 0, so is that of every table;
   pub head-refused : {n : ℕ} (l : List Test) → n ≡ headRefusal ws → n ≢ 0 → RefusalOf (timeTests ws s l) n
-  unfolding headAnswer
+  unfolding headRefusal
   head-refused {n} l = by-test (ltb (length ws) headLen)
-      (λ t. n ≡ headNumber (cond t (answer.Refused SHORT-HEAD) (cond (badHead ws) (answer.Refused HEAD) (Read (headOf ws)))) → n ≢ 0
+      (λ t. n ≡ cond t SHORT-HEAD (cond (badHead ws) HEAD 0) → n ≢ 0
       → RefusalOf (record { number = SHORT-HEAD; applies = t } ∷ record { number = HEAD; applies = badHead ws } ∷ timeOwn (headOf ws) ws s l) n)
       (λ a e d. record { is = sym e })
       (λ a. by-test (badHead ws)
-      (λ t. n ≡ headNumber (cond t (answer.Refused HEAD) (Read (headOf ws))) → n ≢ 0
+      (λ t. n ≡ cond t HEAD 0 → n ≢ 0
       → RefusalOf (record { number = SHORT-HEAD; applies = false } ∷ record { number = HEAD; applies = t } ∷ timeOwn (headOf ws) ws s l) n)
       (λ b e d. record { is = sym e })
       (λ b e d. absurd (d e)))

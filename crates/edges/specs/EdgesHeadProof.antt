@@ -10,9 +10,10 @@ use Rattle.layout.specs.Sizes.{blockLen, layoutLen}
 use Rattle.layout.specs.Settings.{inLimits}
 use Rattle.layout.specs.Head.{headOf, headWords, badHead}
 use Rattle.layout.specs.Words.{writeWord}
-use Rattle.calls.specs.Calls.{LookBack, Call, Start, Set, Clear, Update, Advance, Ask}
+use Rattle.calls.specs.Calls.{LookBack, Window, Call, Start, Set, Clear, Update, Advance, Ask}
 use Rattle.calls.specs.Refusals.{Test, refusal, storeTests}
 use Rattle.calls.specs.LookBack.{lookBack}
+use Rattle.calls.specs.Window.{window}
 use Rattle.calls.specs.Step.{testsOf, start, set, clear, update, advance}
 use Rattle.calls.specs.Claims.{NotStart}
 use Rattle.edges.specs.EdgesStores.{Refuses, AllRefuse, headOnly, three}
@@ -38,16 +39,19 @@ module _ (ws : List ℕ) (n : ℕ) (some : eqb n 0 ≡ false) where
   begins (Advance s) h e = kept (storeTests ws []) (drop 3 (testsOf ws (Advance s))) n e some
   begins (Ask (LookBack t rows list)) h e =
       kept (storeTests ws []) (drop 3 (testsOf ws (Ask (LookBack t rows list)))) n e some
+  begins (Ask (Window first last rows)) h e =
+      kept (storeTests ws []) (drop 3 (testsOf ws (Ask (Window first last rows)))) n e some
 
   -- a call whose first refusal is n, but not 12, answers it
   answers : (c : Call) → NotStart c → eqb n 12 ≡ false → refusal (testsOf ws c) ≡ n → Refuses n ws c
-  unfolding set clear update advance lookBack
+  unfolding set clear update advance lookBack window
   answers (Start s) h d e = absurd h
   answers (Set s tag reading) h d e = rw (e, some)
   answers (Clear s tag) h d e = rw (e, some)
   answers (Update s tag reading) h d e = rw (e, some)
   answers (Advance s) h d e = rw (e, some)
   answers (Ask (LookBack t rows list)) h d e = rw (e, some, d)
+  answers (Ask (Window first last rows)) h d e = rw (e, some, d)
 
 every : {n : ℕ} {ws : List ℕ} → refusal (storeTests ws []) ≡ n → eqb n 0 ≡ false → eqb n 12 ≡ false → AllRefuse n ws
 every {n} {ws} e some d = record { given = λ c h. answers ws n some c h d (begins ws n some c h e) }

@@ -12,6 +12,7 @@ use Rattle.edges.specs.EdgesLookBack.{AskEdges, WalkEdges, PageEdges}
 use Rattle.edges.specs.Edges.{Edges}
 use Rattle.edges.specs.EdgesHeadProof.{start-edges, head-edges}
 use Rattle.edges.specs.EdgesWordsProof.{word-edges}
+use Rattle.edges.specs.EdgesWindowProof.{range-edges, read-edges, stood-edges, unknown-edges, window-table, latest-table}
 
 three-left : wordsAfter (step (replicate 4621 9) (Start settings) .store) toThree ≡ three
 unfolding three openTests openPrograms
@@ -231,5 +232,11 @@ edges = record {
   ask = ask-edges;
   walk = walk-edges;
   page = page-edges;
+  range = range-edges;
+  read = read-edges;
+  stood = stood-edges;
+  unknown = unknown-edges;
+  window-table = window-table;
+  latest-table = latest-table;
   words = word-edges;
 }

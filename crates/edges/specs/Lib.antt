@@ -2,8 +2,11 @@ pub mod EdgesStores
 pub mod EdgesHead
 pub mod EdgesChange
 pub mod EdgesLookBack
+pub mod EdgesWindow
+pub mod WindowTable
 pub mod EdgesWords
 pub mod Edges
 pub mod EdgesHeadProof
 pub mod EdgesWordsProof
+pub mod EdgesWindowProof
 pub mod EdgesProof

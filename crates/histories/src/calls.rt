@@ -1,5 +1,5 @@
-// The register's calls, each on the first words of the store: as many as are asked for, or all that there are. What a look-back leaves goes
-// into the memory.
+// The register's calls, each on the first words of the store: as many as are asked for, or all that there are. What a look-back or a window
+// leaves goes into the memory.
 use model::asked::*;
 use model::memory::*;
 use model::settings::Settings;
@@ -105,5 +105,27 @@ pub fn look_back(memory: &mut Memory, a: LookBack) -> u32 {
     note(memory, ROWS, &rows);
     note(memory, LIST, &list);
     note_answer(memory, &answer);
+    got
+}
+
+fn window_on(store: &[u32], a: Window, rows: &mut [u32], answer: &mut [u32; 1]) -> u32 {
+    let store_end = least(a.length as usize, store.len());
+    let row_end = least(a.row_words as usize, rows.len());
+    register::register_window(
+        &store[0..store_end],
+        a.first,
+        a.last,
+        &mut rows[0..row_end],
+        answer,
+    )
+}
+
+// A window into a buffer of marks; its answer's word is a mark too.
+pub fn window(memory: &mut Memory, a: Window) -> u32 {
+    let mut rows = marked();
+    let mut answer = [MARK];
+    let got = window_on(memory, a, &mut rows, &mut answer);
+    note(memory, ROWS, &rows);
+    put(memory, ANSWER, answer[0]);
     got
 }

@@ -1,10 +1,11 @@
 // Calls on damaged stores. Whatever the words are, a call answers 0 or a refusal that it can meet, and a refused one leaves what
-// document 01 says.
+// documents 01 and 02 say.
 use crate::calls;
 use crate::history;
 use crate::tally;
 use model::asked::*;
 use model::book;
+use model::crossed;
 use model::draw;
 use model::log;
 use model::looked;
@@ -128,12 +129,13 @@ fn draw_change(memory: &mut Memory, kind: u32) -> Change {
 fn may(kind: u32, got: u32) -> bool {
     match got {
         0 | refusal::SHORT_HEAD | refusal::HEAD | refusal::SHORT_STORE | refusal::TIME_OPEN => true,
-        refusal::EARLY => kind != LOOK_BACK,
-        refusal::LATE | refusal::SHORT_BUFFER => kind == LOOK_BACK,
+        refusal::EARLY => kind < LOOK_BACK,
+        refusal::LATE | refusal::SHORT_BUFFER => ADVANCE < kind,
         refusal::TAG | refusal::OUT_OF_BLOCKS => kind < ADVANCE,
         refusal::STANDING => kind == SET,
         refusal::NOT_STANDING => settings::between(CLEAR, kind, UPDATE),
         refusal::UNSOUND => kind != ADVANCE,
+        refusal::REVERSED => kind == WINDOW,
         _ => false,
     }
 }
@@ -161,6 +163,17 @@ fn look_back_turn(memory: &mut Memory) {
     history::left(memory, looked::left(memory, a, got), 0, WROTE);
 }
 
+fn window_turn(memory: &mut Memory) {
+    let last = past(memory);
+    let length = get(memory, log::LENGTH);
+    let a = draw::window_to(memory, length, last);
+    let got = calls::window(memory, a);
+    tally::answered_damaged(memory, may(WINDOW, got), got);
+    tally::windowed(memory, tally::DAMAGED_WINDOWS, got);
+    let found = crossed::left(memory, a, got);
+    history::left(memory, found, 0, WROTE);
+}
+
 // A start on a damaged store is as on any: its words do not matter.
 fn start_turn(memory: &mut Memory) {
     let length = get(memory, log::LENGTH);
@@ -171,19 +184,20 @@ fn start_turn(memory: &mut Memory) {
     history::left(memory, 0, history::AFTER_SETTINGS, WROTE);
 }
 
-// A round: the store is damaged, then each kind of call, look-backs and clears oftener, and last a start.
-const ROUND: u32 = 11;
+// A round: the store is damaged, then each kind of call, look-backs, windows and clears oftener, and last a start.
+const ROUND: u32 = 13;
 
 const ROUNDS: u32 = 3;
 
 // The kind of a round's i-th call.
 fn kind_of(i: u32) -> u32 {
     match i {
-        1 | 8 => SET,
-        3 | 6 => CLEAR,
-        4 => UPDATE,
-        7 => ADVANCE,
-        10 => START,
+        1 | 10 => WINDOW,
+        2 | 9 => SET,
+        4 | 7 => CLEAR,
+        5 => UPDATE,
+        8 => ADVANCE,
+        12 => START,
         _ => LOOK_BACK,
     }
 }
@@ -196,6 +210,7 @@ fn turn(memory: &mut Memory, i: u32) {
     match kind {
         START => start_turn(memory),
         LOOK_BACK => look_back_turn(memory),
+        WINDOW => window_turn(memory),
         _ => change_turn(memory, kind),
     }
 }

@@ -4,6 +4,7 @@ use crate::tally;
 use model::agree;
 use model::asked::*;
 use model::book;
+use model::crossed;
 use model::draw;
 use model::due;
 use model::log;
@@ -92,6 +93,19 @@ fn look_back_turn(memory: &mut Memory) {
     }
 }
 
+fn window_turn(memory: &mut Memory) {
+    let a = draw::window(memory);
+    let got = calls::window(memory, a);
+    tally::answered(memory, due::window(memory, a), got);
+    tally::windowed(memory, tally::WINDOWS, got);
+    let found = crossed::agrees(memory, a, got);
+    tally::note(memory, found);
+    if got == 0 {
+        let rows = get(memory, ANSWER);
+        add(memory, tally::WINDOW_ROWS, rows);
+    }
+}
+
 // The kind of call for a number below 200.
 fn kind_of(r: u32) -> u32 {
     match r {
@@ -99,7 +113,8 @@ fn kind_of(r: u32) -> u32 {
         70..=109 => CLEAR,
         110..=144 => UPDATE,
         145..=154 => ADVANCE,
-        155..=198 => LOOK_BACK,
+        155..=184 => LOOK_BACK,
+        185..=198 => WINDOW,
         _ => START,
     }
 }
@@ -118,6 +133,7 @@ fn turn(memory: &mut Memory) {
             start_turn(memory, s, length);
         }
         LOOK_BACK => look_back_turn(memory),
+        WINDOW => window_turn(memory),
         _ => change_turn(memory, kind),
     }
 }

@@ -17,14 +17,22 @@ pub const OPENED: u32 = TALLY + 6;
 
 pub const BLOCKS_MOST: u32 = TALLY + 8;
 
-// Answers by number, 0 to 13: those of the calls of histories, and those of calls on damaged stores.
+// Answers by number, 0 to 14: those of the calls of histories, and those of calls on damaged stores.
 const ANSWERS: u32 = TALLY + 9;
 
-const DAMAGED_CALLS: u32 = ANSWERS + 14;
+const DAMAGED_CALLS: u32 = ANSWERS + 15;
 
-const DAMAGED: u32 = ANSWERS + 15;
+const DAMAGED: u32 = ANSWERS + 16;
 
-const MISMATCHES: u32 = ANSWERS + 29;
+const MISMATCHES: u32 = ANSWERS + 31;
+
+// Windows asked, and behind them those by their answer, 0 to 14: of histories, with the rows that they gave behind them, and on damaged
+// stores.
+pub const WINDOWS: u32 = TALLY + 128;
+
+pub const WINDOW_ROWS: u32 = WINDOWS + 16;
+
+pub const DAMAGED_WINDOWS: u32 = WINDOWS + 17;
 
 // The history that runs, its call, and what of it did not agree, or 0.
 const HISTORY: u32 = TALLY + 64;
@@ -80,6 +88,12 @@ pub fn answered(memory: &mut Memory, due: u32, got: u32) {
     }
 }
 
+// Counts a window and its answer, which is one of 0 to 14: any other was noted.
+pub fn windowed(memory: &mut Memory, part: u32, got: u32) {
+    add(memory, part, 1);
+    add(memory, sum(part, sum(least(got, 14), 1)), 1);
+}
+
 // An answer that no words of a store may bring about.
 const NEVER: u32 = 20;
 
@@ -111,6 +125,18 @@ most blocks in a history #
     );
     tell(
         memory,
+        WINDOWS,
+        b"windows asked #
+windows answered #
+windows, refusals 1 to 14: # # # # # # # # # # # # # #
+window rows compared #
+windows asked on damaged stores #
+damaged, windows answered #
+damaged, windows, refusals 1 to 14: # # # # # # # # # # # # # #
+",
+    );
+    tell(
+        memory,
         ANSWERS + 1,
         b"refusal 1: #
 refusal 2: #
@@ -125,6 +151,7 @@ refusal 10: #
 refusal 11: #
 refusal 12: #
 refusal 13: #
+refusal 14: #
 calls on damaged stores #
 damaged, answer 0: #
 damaged, answer 1: #
@@ -140,6 +167,7 @@ damaged, answer 10: #
 damaged, answer 11: #
 damaged, answer 12: #
 damaged, answer 13: #
+damaged, answer 14: #
 mismatches #
 ",
     );

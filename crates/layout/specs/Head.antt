@@ -7,8 +7,6 @@ use lib.ListN.{length, getD, drop, replicate}
 use Rattle.layout.specs.declared.settings.Settings.{Settings}
 use Rattle.layout.specs.declared.head.Cursor.{Cursor}
 use Rattle.layout.specs.declared.head.Head.{Head}
-use Rattle.layout.specs.declared.head.HeadAnswer.{HeadAnswer}
-use Rattle.layout.specs.declared.head.HeadAnswer.the-variants.{Read, Refused}
 use Rattle.layout.specs.Sizes.{OPEN, mark, headLen, layoutLen}
 use Rattle.layout.specs.Fields.{headMark, headBlock, headUseful, headBlocks, headTags, headOpened, headClock, headFill, headChild, headRight, headSpare}
 use Rattle.layout.specs.RefusalNumbers.{SHORT-HEAD, HEAD}
@@ -66,17 +64,9 @@ badHead ws =
     not (eqb (getD ws headMark 0) mark) || not (inLimits (h .settings)) || ltb (h .settings .blocks) (h .cursor .opened)
     || eqb (h .cursor .clock) OPEN || not (spareZero ws) || not (fillFits h)
 
--- what reading the head answers: it is too short, it is bad, or the head
-unfoldable pub headAnswer : List ℕ → HeadAnswer
-headAnswer ws = cond (ltb (length ws) headLen) (Refused SHORT-HEAD) (cond (badHead ws) (Refused HEAD) (Read (headOf ws)))
-
--- the number of a refusal, 0 for a head
-abbrev pub headNumber : HeadAnswer → ℕ
-headNumber (Read h) = 0
-headNumber (Refused n) = n
-
-abbrev pub headRefusal : List ℕ → ℕ
-headRefusal ws = headNumber (headAnswer ws)
+-- refusal 2 where there is no head, 3 for a bad one, else 0
+unfoldable pub headRefusal : List ℕ → ℕ
+headRefusal ws = cond (ltb (length ws) headLen) SHORT-HEAD (cond (badHead ws) HEAD 0)
 
 -- records placed: 0 for N = 0, else (N − 1) × b + fill
 unfoldable pub placed : Head → ℕ

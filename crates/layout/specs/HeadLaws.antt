@@ -11,14 +11,12 @@ use lib.ListN.{length, getD, length-drop}
 use borrow.Author.Tests.{eqb-true, eqb-false, eq-eqb, ne-eqb, ltb-false, le-ltb, leb-true, le-leb, not-false}
 use Rattle.base.specs.Branch.{by-test, is?, and-true, or-false}
 use Rattle.layout.specs.declared.head.Head.{Head}
-use Rattle.layout.specs.declared.head.HeadAnswer.{HeadAnswer}
-use Rattle.layout.specs.declared.head.HeadAnswer.the-variants.{Read, Refused}
 use Rattle.layout.specs.Sizes.{OPEN, mark, headLen}
 use Rattle.layout.specs.Fields.{headMark, headSpare}
 use Rattle.layout.specs.RefusalNumbers.{SHORT-HEAD, HEAD}
 use Rattle.layout.specs.Settings.{inLimits, Within}
 use Rattle.layout.specs.SettingsLaws.{limits-within, within-limits}
-use Rattle.layout.specs.Head.{headOf, headWords, withHead, fillFits, spareZero, badHead, headAnswer, headNumber, headRefusal}
+use Rattle.layout.specs.Head.{headOf, headWords, withHead, fillFits, spareZero, badHead, headRefusal}
 
 -- a head within its limits: settings, blocks opened, clock, and the fill rule (0 for N = 0, else 1 to b)
 pub record SoundHead (h : Head) : Type 0 where
@@ -76,7 +74,7 @@ clock-below c a e = let d = eqb-false c OPEN e in omega arith
 
 module _ (ws : List ℕ) where
   -- words that pass hold a sound head
-  passes : headLen ≤ length ws → headOf ws .cursor .clock ≤ OPEN → badHead ws ≡ false → HeadRead ws (headOf ws)
+  pub passes : headLen ≤ length ws → headOf ws .cursor .clock ≤ OPEN → badHead ws ≡ false → HeadRead ws (headOf ws)
   unfolding badHead
   passes l k e =
       let f = or-false _ (not (fillFits (headOf ws))) e in
@@ -102,39 +100,18 @@ module _ (ws : List ℕ) where
 
   -- where there is no refusal, the store has a head that is not bad,
   pub head-passes : headRefusal ws ≡ 0 → (headLen ≤ length ws) × (badHead ws ≡ false)
-  unfolding headAnswer
+  unfolding headRefusal
   head-passes = by-test (ltb (length ws) headLen)
-      (λ t. headNumber (cond t (Refused SHORT-HEAD) (cond (badHead ws) (Refused HEAD) (Read (headOf ws)))) ≡ 0 → (headLen ≤ length ws) × (badHead ws ≡ false))
+      (λ t. cond t SHORT-HEAD (cond (badHead ws) HEAD 0) ≡ 0 → (headLen ≤ length ws) × (badHead ws ≡ false))
       (λ a e. absurd (omega arith))
       (λ a. by-test (badHead ws)
-      (λ t. headNumber (cond t (Refused HEAD) (Read (headOf ws))) ≡ 0 → (headLen ≤ length ws) × (t ≡ false))
+      (λ t. cond t HEAD 0 ≡ 0 → (headLen ≤ length ws) × (t ≡ false))
       (λ b e. absurd (omega arith))
       (λ b e. (ltb-false _ _ a, refl)))
 
-  -- and that head is the answer
-  pub passes-read : headLen ≤ length ws → badHead ws ≡ false → headAnswer ws ≡ Read (headOf ws)
-  unfolding headAnswer
-  passes-read l b = simp (le-ltb (length ws) headLen l, b)
-
-  -- What `read_head` answered as a head is the head of a sound store. (A word fits 32 bits, so that a clock other than OPEN is below it.)
-  pub head-read : {h : Head} → headAnswer ws ≡ Read h → h .cursor .clock ≤ OPEN → HeadRead ws h
-  head-read {h} a k =
-      let p = head-passes (ap headNumber a) in
-      let e : h ≡ headOf ws = cc (passes-read (p .0) (p .1)) in
-      rw e (passes (p .0) (rw e at k) (p .1))
-
-  -- and back: such a store is read again
-  pub read-again : {h : Head} → HeadRead ws h → headAnswer ws ≡ Read h
-  read-again {h} r =
-      let g = r .sound in
-      let b : badHead ws ≡ false = bad-head ws (r .is) (eq-eqb _ _ (r .marked)) (within-limits _ (g .within)) (le-ltb _ _ (g .opened))
-      (ne-eqb (h .cursor .clock) OPEN (λ e. omega arith)) (r .spare) (rule-fill h g) in
-      rw (r .is) (passes-read (r .long) b)
-
--- An answer by its refusal number: a number is that refusal.
-pub answer-refused : (a : HeadAnswer) {n : ℕ} → n ≡ headNumber a → n ≢ 0 → Refused n ≡ a
-answer-refused (Read h) e d = absurd (d e)
-answer-refused (Refused m) e d = ap Refused e
+  -- and it is sound. (A word fits 32 bits, so that a clock other than OPEN is below it.)
+  pub head-read : {h : Head} → h ≡ headOf ws → headRefusal ws ≡ 0 → h .cursor .clock ≤ OPEN → HeadRead ws h
+  head-read e z k = let p = head-passes z in rw e (passes (p .0) (rw e at k) (p .1))
 
 -- A sound head that is written is read back.
 pub head-written : (h : Head) (ws : List ℕ) → SoundHead h → headLen ≤ length ws → HeadRead (withHead h ws) h

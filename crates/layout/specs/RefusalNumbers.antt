@@ -1,4 +1,4 @@
--- THE REFUSALS BY NAME (document 01, "When a call is turned away"): src/refusal.rt has the same names, include/register.h with REGISTER_ before them.
+-- THE REFUSALS BY NAME (document 01, "When a call is turned away"; from 14 on document 02): src/refusal.rt has the same names, include/register.h with REGISTER_ before them.
 use Prim.Native.Nat.{ℕ}
 
 abbrev pub SETTINGS : ℕ
@@ -39,3 +39,6 @@ UNSOUND = 12
 
 abbrev pub OUT-OF-BLOCKS : ℕ
 OUT-OF-BLOCKS = 13
+
+abbrev pub REVERSED : ℕ
+REVERSED = 14

@@ -12,7 +12,7 @@ ghost use Prim.Native.Nat.{_≤_, _<_};
 ghost use lib.ListN.{length};
 ghost use Rattle.layout.specs.Sizes.{headLen, layoutLen};
 ghost use Rattle.layout.specs.Settings.{Within};
-ghost use Rattle.layout.specs.Head.{freshHead, onward, headOf, withHead, cleared, fillFits, spareZero, badHead, headRefusal, headAnswer, placed};
+ghost use Rattle.layout.specs.Head.{freshHead, onward, headOf, withHead, cleared, fillFits, spareZero, badHead, headRefusal, placed};
 ghost use Rattle.layout.specs.HeadLaws.{SoundHead};
 ghost use Rattle.layout.specs.Cursor.{at, filled, grown, relinked, storeCursor};
 ghost use Rattle.layout.specs.Ran.{Ran};
@@ -35,12 +35,6 @@ pub struct Cursor {
 pub struct Head {
     pub settings: Settings,
     pub cursor: Cursor,
-}
-
-// What reading the head answers: the head, or refusal 2 or 3.
-pub enum HeadAnswer {
-    Read(Head),
-    Refused(u32),
 }
 
 impl Head {
@@ -228,17 +222,6 @@ pub fn head_refusal(store: &[u32]) -> u32
         return refusal::HEAD;
     }
     0
-}
-
-// The head, or its refusal, as one value.
-pub fn read_head(store: &[u32]) -> HeadAnswer
-    ensures { λ r. ⌜ r ≡ headAnswer (now (store .entry)) ⌝ }
-{
-    let n = head_refusal(store);
-    if n != 0 {
-        return HeadAnswer::Refused(n);
-    }
-    HeadAnswer::Read(head_of(store))
 }
 
 // All 16 words, the last six as zeros.

@@ -1,4 +1,4 @@
-// Places, which the directory keeps and which decisions and placing read: slot k (from 0) of block n has place (n - 1) * b + k + 1.
+// Places, which the directory keeps and which decisions, placing and window read: slot k (from 0) of block n has place (n - 1) * b + k + 1.
 use crate::settings::Settings;
 ghost use mathlib.Core.Path.{_≡_};
 ghost use Prim.Native.Nat.{_≤_};

@@ -1,4 +1,4 @@
-// The numbers of document 01, "When a call is turned away".
+// The numbers of document 01, "When a call is turned away"; from 14 on of document 02.
 pub const SETTINGS: u32 = 1;
 
 pub const SHORT_HEAD: u32 = 2;
@@ -24,3 +24,5 @@ pub const SHORT_BUFFER: u32 = 11;
 pub const UNSOUND: u32 = 12;
 
 pub const OUT_OF_BLOCKS: u32 = 13;
+
+pub const REVERSED: u32 = 14;

@@ -13,6 +13,8 @@ pub const ADVANCE: u32 = 5;
 
 pub const LOOK_BACK: u32 = 6;
 
+pub const WINDOW: u32 = 7;
+
 // A set, clear, new reading or clock move, with the number of words that are lent.
 pub struct Change {
     pub kind: u32,
@@ -28,4 +30,12 @@ pub struct LookBack {
     pub second: u32,
     pub row_words: u32,
     pub list_words: u32,
+}
+
+// A window from a first to a last second, with the numbers of words that are lent: of the store, and for rows.
+pub struct Window {
+    pub length: u32,
+    pub first: u32,
+    pub last: u32,
+    pub row_words: u32,
 }

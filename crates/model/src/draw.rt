@@ -146,3 +146,35 @@ pub fn look_back(memory: &mut Memory) -> LookBack {
     let second = past(memory);
     look_back_at(memory, length, second)
 }
+
+// The first second of a window with this last one: the same, one shortly or long before it, the history's beginning; sometimes one after it,
+// sometimes any.
+fn first_of(memory: &mut Memory, last: u32) -> u32 {
+    match below(memory, 16) {
+        0..=2 => last,
+        3..=7 => less(last, below(memory, 8)),
+        8..=11 => less(last, below(memory, 90)),
+        12..=13 => 0,
+        14 => sum(last, sum(below(memory, 3), 1)),
+        _ => past(memory),
+    }
+}
+
+// A window that ends at a second, with a buffer for D rows.
+pub fn window_to(memory: &mut Memory, length: u32, last: u32) -> Window {
+    let first = first_of(memory, last);
+    let rows = product(settings::ROW_WORDS, get(memory, book::TAGS));
+    let row_words = buffer(memory, rows);
+    Window {
+        length,
+        first,
+        last,
+        row_words,
+    }
+}
+
+pub fn window(memory: &mut Memory) -> Window {
+    let length = length(memory);
+    let last = past(memory);
+    window_to(memory, length, last)
+}

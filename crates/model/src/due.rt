@@ -1,4 +1,4 @@
-// What document 01 has a call answer after an honest history: 0, or the first refusal of its list that applies. UNSOUND never does.
+// What documents 01 and 02 have a call answer after an honest history: 0, or the first refusal of its list that applies. UNSOUND never does.
 use crate::asked::*;
 use crate::book;
 use crate::log;
@@ -64,4 +64,14 @@ pub fn look_back(memory: &Memory, a: LookBack) -> u32 {
     let list = get(memory, book::MOST_BLOCKS) <= a.list_words;
     let short = unless(rows & list, refusal::SHORT_BUFFER);
     first(on_store(memory, a.length, a.second), first(late, short))
+}
+
+// "14, t2 before t1, after refusal 5, which both times must pass; refusal 7 looks at t2"
+pub fn window(memory: &Memory, a: Window) -> u32 {
+    let open = if a.first == OPEN { OPEN } else { a.last };
+    let reversed = unless(a.first <= a.last, refusal::REVERSED);
+    let late = unless(a.last <= get(memory, book::CLOCK), refusal::LATE);
+    let rows = product(settings::ROW_WORDS, get(memory, book::TAGS)) <= a.row_words;
+    let timed = first(on_store(memory, a.length, open), first(reversed, late));
+    first(timed, unless(rows, refusal::SHORT_BUFFER))
 }

@@ -3,6 +3,7 @@
 pub mod agree;
 pub mod asked;
 pub mod book;
+pub mod crossed;
 pub mod draw;
 pub mod due;
 pub mod log;

@@ -62,3 +62,24 @@ pub fn state_at(memory: &Memory, tag: u32, t: u32) -> u32 {
     }
     left
 }
+
+// What a change left stood at some second from `first` on, if the tag's next change was made at `end`.
+fn stood(memory: &Memory, made: u32, first: u32, end: u32) -> bool {
+    (made != 0) & (at(memory, change(made), SECOND) < end) & (first < end)
+}
+
+// The latest standing of one tag in a window: the number of the change that made it, or 0 if the tag stood at no second of the window.
+pub fn latest_in(memory: &Memory, tag: u32, first: u32, last: u32) -> u32 {
+    let end = sum(get(memory, book::CHANGES), 1);
+    let mut left: u32 = 0;
+    let mut latest: u32 = 0;
+    for i in 1..end {
+        if concerns(memory, i, tag, last) {
+            if stood(memory, left, first, at(memory, change(i), SECOND)) {
+                latest = left;
+            }
+            left = at(memory, change(i), LEFT);
+        }
+    }
+    if left == 0 { latest } else { left }
+}

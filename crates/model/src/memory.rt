@@ -19,17 +19,24 @@ pub const BOOK: u32 = 49152;
 
 pub const FORMER: u32 = 53248;
 
-// What the last look-back left of its two buffers and of the six words of its answer (calls.rt).
+// What the last look-back left of its two buffers and of the six words of its answer, or a window of its one buffer and of the one word of
+// its answer (calls.rt).
 pub const ROWS: u32 = 57344;
 
 pub const LIST: u32 = 57984;
 
 pub const ANSWER: u32 = 58624;
 
+// How many words such a buffer has.
+pub const BUFFER_WORDS: u32 = 640;
+
 // What such a buffer must have where nothing is written: marks, and where zeros are.
 pub const MARKS: u32 = 59392;
 
 pub const ZEROS: u32 = 60032;
+
+// What a window must have left of its buffer (crossed.rt).
+pub const ROWS_DUE: u32 = 60672;
 
 // The plain log (log.rt), the totals (tally.rt), and the state of the random numbers.
 pub const LOG: u32 = 61440;

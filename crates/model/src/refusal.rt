@@ -1,4 +1,4 @@
-// The numbers of document 01, "When a call is turned away", named as the register's own (layout/src/refusal.rt), and written anew so that
+// The numbers of document 01, "When a call is turned away", and of document 02, named as the register's own (layout/src/refusal.rt), and written anew so that
 // a wrong number there is found here.
 pub const SETTINGS: u32 = 1;
 
@@ -25,3 +25,5 @@ pub const SHORT_BUFFER: u32 = 11;
 pub const UNSOUND: u32 = 12;
 
 pub const OUT_OF_BLOCKS: u32 = 13;
+
+pub const REVERSED: u32 = 14;

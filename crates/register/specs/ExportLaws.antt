@@ -11,20 +11,23 @@ use Rattle.base.specs.Branch.{and-true}
 use Rattle.layout.specs.declared.settings.Settings.{Settings}
 use Rattle.layout.specs.Settings.{inLimits, Within}
 use Rattle.layout.specs.SettingsLaws.{limits-within, StoreLong}
-use Rattle.calls.specs.Calls.{LookBack, Call, Start, Set, Clear, Update, Advance, Ask, Answer, Done, Shown, Refused, Reply, accepted}
+use Rattle.calls.specs.Calls.{LookBack, Window, Call, Start, Set, Clear, Update, Advance, Ask, Answer, Done, Shown, Numbers, Refused, Reply, accepted}
 use Rattle.calls.specs.Refusals.{Test}
 use Rattle.calls.specs.LookBack.{lookBack}
 use Rattle.calls.specs.Step.{step, testsOf}
 use Rattle.calls.specs.Claims.{First, here, later}
 use Rattle.theory.specs.TestLaws.{numbered}
-use Rattle.theory.specs.EveryLookBack.{every-call}
+use Rattle.theory.specs.AnyCall.{every-call}
 use Rattle.changes.specs.declared.Change.{Change}
 use Rattle.changes.specs.Replied.{Replied, answerOf}
 use Rattle.timeslice.specs.declared.Slice.{Slice}
 use Rattle.timeslice.specs.declared.SliceAnswer.{SliceAnswer}
 use Rattle.timeslice.specs.declared.SliceAnswer.the-variants as slice
 use Rattle.timeslice.specs.Answer.{Says, view, number, LookedBack}
-use Rattle.register.specs.Exports.{numberOf, sixWords, sixAfter, Exported, ExportedLookBack, wordsFor}
+use Rattle.window.specs.declared.WindowAnswer.{WindowAnswer}
+use Rattle.window.specs.declared.WindowAnswer.the-variants as window
+use Rattle.window.specs.Windowed.{Windowed, answerOf as windowAnswer}
+use Rattle.register.specs.Exports.{numberOf, sixWords, sixAfter, numbersAfter, Exported, ExportedLookBack, ExportedQuery, wordsFor}
 
 -- ---- a start, change or clock move
 pub exported : {r : Reply} {c : Change} {n : ℕ} {words : List ℕ} → Replied r c words → n ≡ numberOf (answerOf c) → Exported r n words
@@ -38,6 +41,7 @@ tests-numbered ws (Clear s tag) = refl
 tests-numbered ws (Update s tag reading) = refl
 tests-numbered ws (Advance s) = refl
 tests-numbered ws (Ask (LookBack t rows list)) = refl
+tests-numbered ws (Ask (Window first last rows)) = refl
 
 first-above : {l : List Test} {n : ℕ} → numbered l ≡ true → First l n → 0 < n
 first-above k (here {x} {l} e) = ltb-true 0 (x .number) (and-true (ltb 0 (x .number)) (numbered l) k .0)
@@ -46,6 +50,7 @@ first-above k (later {x} {l} e f) = first-above (and-true (ltb 0 (x .number)) (n
 zero-accepted : (a : Answer) → ((n : ℕ) → a ≡ Refused n → 0 < n) → eqb (numberOf a) 0 ≡ accepted a
 zero-accepted (Done h) k = refl
 zero-accepted (Shown v) k = refl
+zero-accepted (Numbers l) k = refl
 zero-accepted (Refused n) k = ne-eqb n 0 (λ e. omega (arith, k n refl, e))
 
 pub told-zero : (ws : List ℕ) (c : Call) → eqb (numberOf (step ws c .answer)) 0 ≡ accepted (step ws c .answer)
@@ -71,6 +76,19 @@ module _ {ws rows list rows′ list′ : List ℕ} {t : ℕ} {l : SliceAnswer} (
 
   pub answered-back : {s : Slice} {six′ : List ℕ} → l ≡ slice.Answered s → six′ ≡ sets six 0 (sixWords s) → ExportedLookBack ws t rows list six 0 rows′ list′ six′
   answered-back e f = let p = answered-so (rw e at (b .answer)) in told-back (p .0, f ∙ p .1)
+
+-- ---- a window: refused, or answered with one number
+module _ {ws rows rows′ : List ℕ} {first last : ℕ} {w : WindowAnswer} (b : Windowed ws first last rows w rows′) (answer : List ℕ) where
+  pub refused-window : {n : ℕ} → w ≡ window.Refused n → ExportedQuery ws (Window first last rows) answer n (rows′ ∷ []) answer
+  refused-window {n} e =
+      let is : Refused n ≡ step ws (Ask (Window first last rows)) .answer = ap windowAnswer (sym e) ∙ b .answer in
+      record { number = ap numberOf is; buffers = b .words; answered = ap (λ (a : Answer). numbersAfter a answer) is }
+
+  pub answered-window : {n : ℕ} {answer′ : List ℕ} → w ≡ window.Rows n → answer′ ≡ sets answer 0 (n ∷ [])
+      → ExportedQuery ws (Window first last rows) answer 0 (rows′ ∷ []) answer′
+  answered-window {n} e f =
+      let is : Numbers (n ∷ []) ≡ step ws (Ask (Window first last rows)) .answer = ap windowAnswer (sym e) ∙ b .answer in
+      record { number = ap numberOf is; buffers = b .words; answered = f ∙ ap (λ (a : Answer). numbersAfter a answer) is }
 
 -- ---- how many words a store takes, for settings as they are asked for
 pub words-within : {a : Settings} {b : Bool} → b ≡ inLimits a → b ≡ true → Within a

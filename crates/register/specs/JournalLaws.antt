@@ -11,7 +11,7 @@ use Rattle.base.specs.Sums.{is, is-small}
 use Rattle.calls.specs.Calls.{Call, accepted}
 use Rattle.calls.specs.Step.{step}
 use Rattle.calls.specs.History.{wordsAfter, trace}
-use Rattle.theory.specs.EveryLookBack.{every-call}
+use Rattle.theory.specs.AnyCall.{every-call}
 use Rattle.register.specs.declared.journal.Played.{Played}
 use Rattle.register.specs.declared.journal.Played.the-variants.{Counts, Ends}
 use Rattle.register.specs.Exports.{Exported}

@@ -1,5 +1,5 @@
-// THE REGISTER, the public face: any call as one value (apply), a store rebuilt from a journal (replay), and for callers in C and Rust the six
-// calls, each proved equal to its definition (calls.specs.Step), the replay, and how many words a store takes.
+// THE REGISTER, the public face: any of document 01's six calls as one value (apply), a store rebuilt from a journal (replay), and for callers in C
+// and Rust the six calls and the window, each proved equal to its definition (calls.specs.Step), the replay, and how many words a store takes.
 mod journal;
 
 pub use applying::Answer;
@@ -11,13 +11,15 @@ pub use journal::replay;
 use layout::settings::Settings;
 use timeslice::Slice;
 use timeslice::SliceAnswer;
+use window::WindowAnswer;
 ghost use mathlib.Core.Path.{_≡_};
+ghost use mathlib.Core.List.{[], _∷_};
 ghost use lib.Seq.{sets};
 ghost use Rattle.layout.specs.Settings.{settingsOf};
-ghost use Rattle.calls.specs.Calls.{Start, Set, Clear, Update, Advance};
+ghost use Rattle.calls.specs.Calls.{Start, Set, Clear, Update, Advance, Window};
 ghost use Rattle.calls.specs.Step.{step};
 ghost use Rattle.changes.specs.Replied.{answerOf};
-ghost use Rattle.register.specs.Exports.{numberOf, sixWords, Exported, ExportedLookBack, wordsFor, ExportedReplay};
+ghost use Rattle.register.specs.Exports.{numberOf, sixWords, Exported, ExportedLookBack, ExportedQuery, wordsFor, ExportedReplay};
 ghost use Rattle.register.specs.Rebuilt.{Rebuilt};
 
 // 0 for an accepted call, else the refusal's number.
@@ -105,6 +107,27 @@ pub extern "C" fn register_look_back(
         SliceAnswer::Refused(n) => n,
         SliceAnswer::Answered(slice) => {
             put_six(answer, slice);
+            0
+        }
+    }
+}
+
+#[no_mangle]
+pub extern "C" fn register_window(
+    store: &[u32],
+    first: u32,
+    last: u32,
+    rows: &mut [u32],
+    answer: &mut [u32; 1],
+) -> u32
+    ensures { λ r. ⌜ ExportedQuery (now (store .entry)) (Window first last (now (rows .entry)))
+        (now (answer .entry)) r (now (rows .exit) ∷ []) (now (answer .exit)) ⌝ }
+{
+    let crossed = window::window(store, first, last, rows);
+    match crossed {
+        WindowAnswer::Refused(n) => n,
+        WindowAnswer::Rows(given) => {
+            answer[0] = given;
             0
         }
     }

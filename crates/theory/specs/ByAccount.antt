@@ -19,13 +19,15 @@ use Rattle.layout.specs.Sizes.{OPEN, headLen, rowLen, layoutLen}
 use Rattle.layout.specs.Memory.{Memory}
 use Rattle.layout.specs.Head.{headOf}
 use Rattle.layout.specs.OverLaws.{over-fits}
-use Rattle.calls.specs.Calls.{Call, Start, Set, Clear, Update, Advance, Ask, LookBack, Refused, accepted}
-use Rattle.calls.specs.Refusals.{Test, opens, tagBlock, copies, unsoundSet, unsoundClear, blocksOut, storeTests, timeTests, clearOwn}
+use Rattle.calls.specs.Calls.{Call, Start, Set, Clear, Update, Advance, Ask, LookBack, Window, Refused, accepted}
+use Rattle.calls.specs.Refusals.{Test, opens, tagBlock, copies, unsoundSet, unsoundClear, blocksOut, storeTests, timeTests, clearOwn, isOpen}
+use Rattle.calls.specs.Range.{crossing}
+use Rattle.calls.specs.Window.{unknownTag}
 use Rattle.calls.specs.Step.{step, testsOf, wordsRead}
 use Rattle.calls.specs.Book.{Book, bookSet, bookClear, bookUpdate}
 use Rattle.calls.specs.Log.{soFar, among, stateAt}
 use Rattle.calls.specs.History.{Account, enters, outOfBlocks, accountTime, accountClear, accountTests}
-use Rattle.calls.specs.Claims.{First, Asked}
+use Rattle.calls.specs.Claims.{First, Asked, WindowAsked}
 use Rattle.theory.specs.Timeline.{none}
 use Rattle.theory.specs.State.{free, not-found}
 use Rattle.theory.specs.SoFar.{so-far, among-none, none-among, never-shows}
@@ -36,7 +38,8 @@ use Rattle.theory.specs.Sound.{set-sound, clear-sound, same-copies}
 use Rattle.theory.specs.Right.{walk-sound}
 use Rattle.theory.specs.Stored.{head-passes}
 use Rattle.theory.specs.TestLaws.{TablesAlike, same, both, idle, alike-free, free-alike, alike-first, lacks, never-first}
-use Rattle.theory.specs.EveryLookBack.{every-call}
+use Rattle.theory.specs.AnyCall.{every-call}
+use Rattle.theory.specs.HonestWindow.{window-sound}
 use Rattle.theory.specs.Honest.{Honest, head-is, word-is, sound, words-same, head-sound}
 
 -- refusal 13 by the blocks that there would be
@@ -170,6 +173,12 @@ module _ {ws : List ℕ} {a : Account} (i : Honest ws a) where
   decides (Ask (LookBack t rows list)) =
       by-store (both refl refl (λ x₅. both refl (ap (λ (x : ℕ). ltb x t) clock-is) (λ x₇. both refl (short-is rows list) (λ x₁₁.
       idle (walk-sound ws (sound i t (leb-false OPEN t x₅))) same))))
+  decides (Ask (Window first last rows)) =
+      by-store (both refl refl (λ x₅. both refl refl (λ x₁₄. both refl (ap (λ (x : ℕ). ltb x last) clock-is) (λ x₇.
+      both refl (ap (λ (x : Settings). ltb (length rows) (rowLen * x .tags)) settings-is) (λ x₁₁.
+      let ends = leb-false OPEN last (or-false (isOpen first) (isOpen last) x₅ .1) in
+      idle (ap (λ (x : Settings). unknownTag (x .tags) (crossing first last ws)) settings-is
+      ∙ window-sound i first last (ltb-false last first x₁₄) ends) same)))))
 
   -- ---- what follows
   pub allowed-iff : (x : Call) → (accepted (step ws x .answer) ≡ true) ↔ All (λ y. y .applies ≡ false) (accountTests (length ws) a x)
@@ -186,6 +195,7 @@ module _ {ws : List ℕ} {a : Account} (i : Honest ws a) where
   no-12 (Update now tag reading) = refl
   no-12 (Advance now) = refl
   no-12 (Ask (LookBack t rows list)) = refl
+  no-12 (Ask (Window first last rows)) = refl
 
   pub never-unsound : (x : Call) → step ws x .answer ≢ Refused 12
   never-unsound x e = never-first (no-12 x) (refused-by x 12 e)
@@ -208,6 +218,24 @@ module _ {ws : List ℕ} {a : Account} (i : Honest ws a) where
           let short : (ltb (length rows) (rowLen * s .tags) || ltb (length list) (s .blocks)) ≡ false =
           rw (le-ltb (length rows) (rowLen * s .tags) (q .row-room)) (le-ltb (length list) (s .blocks) (q .list-room)) in
           cons (lt-leb OPEN t (q .second)) (cons (le-ltb (a .clock) t (q .past)) (cons short nil))
+
+  -- a window is answered whenever it may be asked
+  pub window-iff : (first last : ℕ) (rows : List ℕ) → (accepted (step ws (Ask (Window first last rows)) .answer) ≡ true) ↔ WindowAsked a first last rows
+  window-iff first last rows = (λ e. asks (allowed-iff (Ask (Window first last rows)) .0 e), λ q. allowed-iff (Ask (Window first last rows)) .1 (asked q))
+    where
+      asks : All (λ y. y .applies ≡ false) (accountTests (length ws) a (Ask (Window first last rows))) → WindowAsked a first last rows
+      asks (cons x₅ (cons x₁₄ (cons x₇ (cons x₁₁ nil)))) = record {
+        order = ltb-false last first x₁₄;
+        second = leb-false OPEN last (or-false (isOpen first) (isOpen last) x₅ .1);
+        past = ltb-false (a .clock) last x₇;
+        row-room = ltb-false (length rows) (rowLen * s .tags) x₁₁;
+      }
+
+      asked : WindowAsked a first last rows → All (λ y. y .applies ≡ false) (accountTests (length ws) a (Ask (Window first last rows)))
+      asked q =
+          let ends : (isOpen first || isOpen last) ≡ false =
+          rw (lt-leb OPEN first (omega (arith, q .order, q .second))) (lt-leb OPEN last (q .second)) in
+          cons ends (cons (le-ltb last first (q .order)) (cons (le-ltb (a .clock) last (q .past)) (cons (le-ltb (length rows) (rowLen * s .tags) (q .row-room)) nil)))
 
   -- one set and cleared within a second never shows
   pub brief : (now tag reading t : ℕ) → accepted (step ws (Set now tag reading) .answer) ≡ true

@@ -16,19 +16,19 @@ use Rattle.layout.specs.declared.head.Cursor.{Cursor}
 use Rattle.layout.specs.declared.head.Head.{Head}
 use Rattle.layout.specs.Sizes.{headLen, layoutLen, OPEN}
 use Rattle.layout.specs.SettingsLaws.{limits-within}
-use Rattle.layout.specs.Head.{headOf, withHead, cleared, freshHead, headAnswer}
+use Rattle.layout.specs.Head.{headOf, withHead, cleared, freshHead}
 use Rattle.layout.specs.Program.{Prog, runOn}
 use Rattle.layout.specs.ProgramLaws.{run-length}
 use Rattle.layout.specs.OnWords.{over}
-use Rattle.layout.specs.declared.head.HeadAnswer.the-variants.{Read}
 use Rattle.layout.specs.declared.address.Address.the-variants.{Dir}
 use Rattle.layout.specs.Memory.{Memory}
-use Rattle.layout.specs.HeadLaws.{head-read}
+use Rattle.layout.specs.HeadLaws.{passes}
 use Rattle.layout.specs.OverLaws.{over-good, over-safe}
 use Rattle.calls.specs.Calls.{Call, Start, Set, Clear, Update, Advance, Ask, Answer, Done, Refused, accepted, Reply}
 use Rattle.calls.specs.Placing.{setProgram, clearProgram, updateProgram, advanceProgram}
 use Rattle.calls.specs.Refusals.{Test, refusal, timeTests, setOwn, clearOwn, tagBlock, unsoundClear}
-use Rattle.calls.specs.Claims.{First, EveryCall, NoView, KindOf, lentBy, zeroed, AllBut13, NotStart, Small, Foretold, ForetoldOf, clearCloses}
+use Rattle.calls.specs.Range.{zeroed}
+use Rattle.calls.specs.Claims.{First, EveryCall, OnlyHead, KindOf, lentBy, AllBut13, NotStart, Small, Foretold, ForetoldOf, clearCloses}
 use Rattle.calls.specs.Step.{step, testsOf, reply, change, set, clear, update, advance, start, wordsRead}
 use Rattle.safety.specs.Goes.{Goes}
 use Rattle.safety.specs.CallSafe.{Next, next-head, advance-goes, set-goes, clear-call-goes, update-goes}
@@ -54,7 +54,7 @@ record Fair (Change : Type 0) (l : List Test) (ws : List ℕ) (r : Reply) : Type
   refused-first : (n : ℕ) → r .answer ≡ Refused n → First l n
   store-kept : (n : ℕ) → r .answer ≡ Refused n → r .store ≡ ws
   lent-none : r .lent ≡ []
-  no-view : NoView (r .answer)
+  no-view : OnlyHead (r .answer)
   same-length : length (r .store) ≡ length ws
   head-stored : (h : Head) → r .answer ≡ Done h → headOf (r .store) ≡ h
   small : Change → Small ws (r .store)
@@ -103,7 +103,7 @@ asks (Update s tag reading) = false
 asks (Advance s) = false
 asks (Ask q) = true
 
-no-query : (c : Call) (a : Answer) → asks c ≡ false → NoView a → KindOf c a
+no-query : (c : Call) (a : Answer) → asks c ≡ false → OnlyHead a → KindOf c a
 no-query (Start s) a k n = n
 no-query (Set s tag reading) a k n = n
 no-query (Clear s tag) a k n = n
@@ -120,7 +120,7 @@ fair-every {ws} {c} k r f told = record {
   store-kept = f .store-kept;
   buffers-kept = λ n e d. f .lent-none ∙ sym r;
   buffers-zero = λ e. f .lent-none ∙ sym (ap zeroed r);
-  head-or-view = no-query c (step ws c .answer) k (f .no-view);
+  of-its-kind = no-query c (step ws c .answer) k (f .no-view);
   head-stored = f .head-stored;
   foretold = told;
   small = f .small;
@@ -153,16 +153,14 @@ record MayChange (ws : List ℕ) (s : ℕ) : Type 0 where
   ends : s < OPEN
 
 ready : (ws : List ℕ) (s : ℕ) {l : List Test} → AllBut13 (timeTests ws s l) → MayChange ws s × AllBut13 l
-unfolding headAnswer
 ready ws s (cons x₂ (cons x₃ (cons x₄ (cons x₅ (cons x₆ r))))) =
     let h = headOf ws in
     let ends : s < OPEN = leb-false OPEN s (x₅ (omega arith)) in
     let early : h .cursor .clock ≤ s = ltb-false s (h .cursor .clock) (x₆ (omega arith)) in
-    let answer : headAnswer ws ≡ Read h = rw (x₂ (omega arith), x₃ (omega arith)) in
     let long : layoutLen (h .settings) ≤ length ws = ltb-false (length ws) (layoutLen (h .settings)) (x₄ (omega arith)) in (
       record {
         stored = record {
-          read = head-read ws answer (omega arith);
+          read = passes ws (ltb-false (length ws) headLen (x₂ (omega arith))) (omega arith) (x₃ (omega arith));
           agree = record { good = over-good (h .settings) (record { long = long }); same = record { at = λ a m. refl } };
         };
         ends = ends;

@@ -22,7 +22,7 @@ use Rattle.layout.specs.Head.{headOf, withHead, cleared, freshHead}
 use Rattle.layout.specs.Program.{Prog, run, runOn}
 use Rattle.layout.specs.OnWords.{over}
 use Rattle.layout.specs.OverLaws.{over-safe}
-use Rattle.calls.specs.Calls.{Call, Start, Set, Clear, Update, Advance, Ask, Answer, Done, Shown, Refused, accepted}
+use Rattle.calls.specs.Calls.{Call, Start, Set, Clear, Update, Advance, Ask, Answer, Done, Shown, Numbers, Refused, accepted}
 use Rattle.calls.specs.Placing.{setProgram, clearProgram, updateProgram, advanceProgram}
 use Rattle.calls.specs.Refusals.{Test, timeTests, setOwn, clearOwn, tagBlock, copies, blocksOut}
 use Rattle.calls.specs.Step.{step, testsOf, change, start, set, clear, update, advance, wordsRead}
@@ -42,7 +42,7 @@ use Rattle.theory.specs.Sound.{set-sound, clear-sound, same-copies}
 use Rattle.theory.specs.Counting.{Counted, counted-empty, counted-set, counted-clear, counted-update}
 use Rattle.theory.specs.Stored.{stored-run, HeadMoved, set-head, clear-head, update-head, advance-head}
 use Rattle.theory.specs.TestLaws.{refusal-none}
-use Rattle.theory.specs.EveryLookBack.{every-call}
+use Rattle.theory.specs.AnyCall.{every-call}
 use Rattle.theory.specs.Honest.{Honest, head-is, word-is, words-same, head-sound}
 
 -- ---- a log that says the same of every second
@@ -224,4 +224,5 @@ module _ {ws : List ℕ} {a : Account} (i : Honest ws a) where
       go : (r : Answer) → step ws x .answer ≡ r → Honest (step ws x .store) (cond (accepted r) (enters a x) a)
       go (Done h) q = honest-accepted x (e .accepted-iff .0 (ap accepted q))
       go (Shown v) q = honest-accepted x (e .accepted-iff .0 (ap accepted q))
+      go (Numbers l) q = honest-accepted x (e .accepted-iff .0 (ap accepted q))
       go (Refused n) q = subst (λ (us : List ℕ). Honest us a) (sym (e .store-kept n q)) i

@@ -25,7 +25,7 @@ use Rattle.theory.specs.EnoughRows.{rows-enough}
 use Rattle.theory.specs.Rest.{booked-useful, booked-open-at}
 use Rattle.theory.specs.Right.{RightLook, blocksOpen, walk-right}
 use Rattle.theory.specs.ViewClaims.{view-claims}
-use Rattle.theory.specs.EveryLookBack.{every-call}
+use Rattle.theory.specs.AnyCall.{every-call}
 use Rattle.theory.specs.LookReady.{weigh-records, rows-are}
 use Rattle.theory.specs.Honest.{Honest, head-is, sound}
 

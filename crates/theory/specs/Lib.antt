@@ -45,11 +45,20 @@ pub mod Stored
 pub mod Fresh
 pub mod OneChange
 pub mod EveryCall
+pub mod EveryQuery
 pub mod EveryLookBack
+-- The window, on any words
+pub mod Latest
+pub mod WindowRows
+pub mod ReadRecords
+pub mod EveryWindow
+pub mod AnyCall
 -- Words after a history, and the theorems
 pub mod LookReady
 pub mod Honest
 pub mod HonestView
+pub mod HonestWindow
+pub mod WindowClaims
 pub mod HonestStep
 pub mod ByAccount
 pub mod Meanings

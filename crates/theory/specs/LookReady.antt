@@ -64,7 +64,7 @@ module _ {ws : List ℕ} {h : Head} {f : Memory} (i : Stored ws h f) where
   same-settings : headOf ws .settings ≡ h .settings
   same-settings = ap (λ (x : Head). x .settings) (sym (i .read .is))
 
-  reader-block : (n j : ℕ) → Numbered (h .settings) n → j < bitsStart → blockWord (reader ws .block n) j ≡ f (Field n j)
+  pub reader-block : (n j : ℕ) → Numbered (h .settings) n → j < bitsStart → blockWord (reader ws .block n) j ≡ f (Field n j)
   unfolding reader
   reader-block n j v l = rw same-settings (block-word (h .settings) ws n j l ∙ word-at (Field n j) (v, l))
 

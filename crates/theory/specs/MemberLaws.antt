@@ -9,6 +9,7 @@ use native.Mathlib.Omega.{arith}
 use lib.Dec.{eqb}
 use borrow.Author.Tests.{eq-eqb, ne-eqb}
 use Rattle.base.specs.Branch.{lt?, is?, eqb-same}
+use Rattle.base.specs.Lists.{joined}
 use Rattle.base.specs.Sums.{total, totals, upto, upto-suc, sumTo, All, nil, cons, is}
 use Rattle.base.specs.Pigeonhole.{keyed}
 use Rattle.base.specs.SameRows.{Same, once-nodup}
@@ -161,17 +162,13 @@ module _ {A : Type 0} (key : A → ℕ) where
 
 -- ---- lists joined one after another, f 0, f 1, .. up to the n-th
 module _ {A : Type 0} (f : ℕ → List A) where
-  unfoldable pub joined : ℕ → List A
-  joined zero = []
-  joined (suc k) = joined k ++ f k
-
-  pub total-joined : (w : A → ℕ) (n : ℕ) → total w (joined n) ≡ upto (λ k. total w (f k)) n
+  pub total-joined : (w : A → ℕ) (n : ℕ) → total w (joined f n) ≡ upto (λ k. total w (f k)) n
   unfolding joined upto
   total-joined w zero = simp totals
   total-joined w (suc n) = simp totals (omega (arith, total-joined w n))
 
   -- Empty lists join to an empty one.
-  pub joined-nil : (n : ℕ) → ((k : ℕ) → k < n → f k ≡ []) → joined n ≡ []
+  pub joined-nil : (n : ℕ) → ((k : ℕ) → k < n → f k ≡ []) → joined f n ≡ []
   unfolding joined
   joined-nil zero h = refl
   joined-nil (suc n) h = rw (joined-nil n (λ k p. h k (omega arith)), h n (omega arith))
@@ -182,25 +179,25 @@ module _ {A : Type 0} (f : ℕ → List A) where
     pub below : at < n
     pub member : List·Memᴰ x (f at)
 
-  pub joined-members : (x : A) (n : ℕ) → List·Memᴰ x (joined n) → MemberOf x n
+  pub joined-members : (x : A) (n : ℕ) → List·Memᴰ x (joined f n) → MemberOf x n
   unfolding joined
   joined-members x zero i = absurd (List·Memᴰ·not-nil i)
-  joined-members x (suc n) i = go (joined-members x n) (List·Memᴰ·append-cases (joined n) i)
+  joined-members x (suc n) i = go (joined-members x n) (List·Memᴰ·append-cases (joined f n) i)
     where
-      go : (List·Memᴰ x (joined n) → MemberOf x n) → List·Memᴰ x (joined n) ⊎ List·Memᴰ x (f n) → MemberOf x (suc n)
+      go : (List·Memᴰ x (joined f n) → MemberOf x n) → List·Memᴰ x (joined f n) ⊎ List·Memᴰ x (f n) → MemberOf x (suc n)
       go before (inl j) = let m = before j in record { at = m .at; below = omega (arith, m .below); member = m .member }
       go before (inr j) = record { at = n; below = omega arith; member = j }
 
-  pub members-joined : (x : A) (n k : ℕ) → k < n → List·Memᴰ x (f k) → List·Memᴰ x (joined n)
+  pub members-joined : (x : A) (n k : ℕ) → k < n → List·Memᴰ x (f k) → List·Memᴰ x (joined f n)
   unfolding joined
   members-joined x zero k h i = absurd (omega arith)
   members-joined x (suc n) k h i = is? k n
-      (λ e. Memᴰ·append-right (joined n) (rw e at i))
+      (λ e. Memᴰ·append-right (joined f n) (rw e at i))
       (λ d. Memᴰ·append-left (f n) (members-joined x n k (omega arith) i))
 
   -- No key twice in one list, and none in two of them: none twice at all.
   pub unique-joined : (key : A → ℕ) (n : ℕ) → ((k : ℕ) → k < n → Unique key (f k))
-      → ((k i : ℕ) (x y : A) → k < n → i < n → List·Memᴰ x (f k) → List·Memᴰ y (f i) → key x ≡ key y → k ≡ i) → Unique key (joined n)
+      → ((k i : ℕ) (x y : A) → k < n → i < n → List·Memᴰ x (f k) → List·Memᴰ y (f i) → key x ≡ key y → k ≡ i) → Unique key (joined f n)
   unique-joined key n unique apart = record {
     once = λ m. rw (total-joined _ n) (upto-one (λ k. keyed key m (f k)) n (λ k h. unique k h .once m)
         (λ k i h j p q.

@@ -10,6 +10,7 @@ use lib.Dec.{leb, ltb}
 use borrow.Author.Tests.{leb-true, ltb-true, le-leb, lt-ltb, lt-leb}
 use Rattle.base.specs.Branch.{by-eqb, cond-all, and-true, and-is}
 use Rattle.base.specs.Sums.{total, totals, total-none, is, sumTo, sumTo-same}
+use Rattle.base.specs.Lists.{joined}
 use Rattle.base.specs.SameRows.{Same}
 use Rattle.layout.specs.Sizes.{OPEN}
 use Rattle.layout.specs.Fields.{tagWord, fromWord, toWord}
@@ -21,7 +22,7 @@ use Rattle.calls.specs.Walk.{rowOf, rowsOf}
 use Rattle.theory.specs.Row.{BlockView}
 use Rattle.theory.specs.Records.{Record, Records, Stands, Kept}
 use Rattle.theory.specs.Timeline.{Timeline, Told, Telling, some}
-use Rattle.theory.specs.MemberLaws.{unique-nil, Among, all-members, same-members, sumTo-below, joined, joined-nil, total-joined, joined-members, members-joined, unique-joined}
+use Rattle.theory.specs.MemberLaws.{unique-nil, Among, all-members, same-members, sumTo-below, joined-nil, total-joined, joined-members, members-joined, unique-joined}
 use Rattle.theory.specs.LogLaws.{tellings, telling-member, member-telling, UniqueTags, Once}
 
 abbrev pub rowOfRecord : Record → Row
@@ -76,9 +77,9 @@ from-record t r x = by-standing t r (λ l. List·Memᴰ x l → FromRecord t r x
     (λ d i. absurd (List·Memᴰ·not-nil i))
 
 -- A record and a row of one tag, each with what is told of it.
-its-row : (r : Record) {x : Row} (l : ℕ → Telling) → l (x .tag) ≡ some (x .payload) → r .tag ≡ x .tag → l (r .tag) ≡ some (r .payload)
+pub row-of-record : (r : Record) {x : Row} (l : ℕ → Telling) → l (x .tag) ≡ some (x .payload) → r .tag ≡ x .tag → l (r .tag) ≡ some (r .payload)
     → x ≡ rowOfRecord r
-its-row r {x} l e q s = let v : x .payload ≡ r .payload = cc in rw (q, ← v)
+row-of-record r {x} l e q s = let v : x .payload ≡ r .payload = cc in rw (q, ← v)
 
 -- ---- a block
 
@@ -185,7 +186,7 @@ module _ {R : Records} {v : BlockView} {b tags N fill clock : ℕ} (kept : Kept 
         let w = told .whole t (x .tag) (x .payload) o e in
         let p = kept .used (w .0) (w .1) (omega (arith, w .2 .lasts)) in
         let s = told .sound t (w .0) (w .1) o (w .2) in
-        Memᴰ·cast (its-row (R (w .0) (w .1)) (tellings log t) e (w .3) s) (row-at b N t R (w .0) (w .1) (p .low) (p .high) (p .slot) (w .2))
+        Memᴰ·cast (row-of-record (R (w .0) (w .1)) (tellings log t) e (w .3) s) (row-at b N t R (w .0) (w .1) (p .low) (p .high) (p .slot) (w .2))
 
     pub rows-log : Same (rowsAt b N t R) (stateAt log t)
     rows-log = same-members (λ r. r .tag) _ _ (rows-once told b N t o) (once .at t o) in-log in-records

@@ -92,13 +92,13 @@ module _ (ws ws′ : List ℕ) (e : take headLen ws′ ≡ take headLen ws) wher
   word-same : (j : ℕ) → j < headLen → getD ws′ j 0 ≡ getD ws j 0
   word-same j h = sym (getD-take headLen ws′ j 0 h) ∙ ap (λ (l : List ℕ). getD l j 0) e ∙ getD-take headLen ws j 0 h
 
-  head-same : headOf ws′ ≡ headOf ws
+  pub head-same : headOf ws′ ≡ headOf ws
   unfolding headOf
   head-same =
       let w = word-same in
       rw (w 1 (lit≤ tt), w 2 (lit≤ tt), w 3 (lit≤ tt), w 4 (lit≤ tt), w 5 (lit≤ tt), w 6 (lit≤ tt), w 7 (lit≤ tt), w 8 (lit≤ tt), w 9 (lit≤ tt))
 
-  bad-head-same : badHead ws′ ≡ badHead ws
+  pub bad-head-same : badHead ws′ ≡ badHead ws
   unfolding badHead
   bad-head-same =
       let w = word-same in

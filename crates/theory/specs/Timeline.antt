@@ -39,7 +39,7 @@ logged? s tag x log t g P a b =
     (λ p. by-test (eqb tag g) (λ c. P (cond c x (log t g))) (λ q. a (leb-true s t p) (eqb-true tag g q)) (λ q. b (λ _. eqb-false tag g q)))
     (λ p. b (λ z. absurd (omega (arith, leb-false s t p))))
 
-not-some : {A : Type 0} {r : Telling} {x : Payload} → r ≡ none → r ≡ some x → A
+pub not-some : {A : Type 0} {r : Telling} {x : Payload} → r ≡ none → r ≡ some x → A
 not-some p q = let z : _≡_ {A = ℕ} 0 1 = cc in absurd (omega arith)
 
 -- ---- a record begins at second now, in a slot where nothing stood, under a tag of which nothing is told from then on

@@ -1,5 +1,6 @@
 -- THE THEOREMS: demand 3 for every list of calls from a fresh register (whole-list), and demand 2, which follows from it (demand-2). Every call on any
--- words is in EveryLookBack (every-call), a store alike in StoreAlike (store-alike), any block's words in Meanings (any-block).
+-- words is in AnyCall (every-call), a store alike in StoreAlike (store-alike) and EveryWindow (window-alike), any block's words in Meanings (any-block),
+-- any records that a window reads in Latest (any-records).
 use mathlib.Core.Path.{_≡_}
 use mathlib.Core.Bool.{true, cond}
 use mathlib.Core.List.{List, [], _∷_}
@@ -10,12 +11,14 @@ use Rattle.calls.specs.Step.{step}
 use Rattle.calls.specs.History.{Account, opening, enters, account, wordsAfter, trace}
 use Rattle.calls.specs.Claims.{Holds, WholeList, Demand2}
 use Rattle.theory.specs.SoFar.{so-far}
-use Rattle.theory.specs.EveryLookBack.{every-call}
+use Rattle.theory.specs.AnyCall.{every-call}
 use Rattle.theory.specs.StoreAlike.{store-alike}
+use Rattle.theory.specs.EveryWindow.{window-alike}
 use Rattle.theory.specs.Honest.{Honest, agrees, bound}
 use Rattle.theory.specs.HonestView.{answered}
+use Rattle.theory.specs.WindowClaims.{crossed}
 use Rattle.theory.specs.HonestStep.{honest-start, honest-step}
-use Rattle.theory.specs.ByAccount.{settings-is, clock-is, allowed-iff, refused-by, never-unsound, answered-iff, brief}
+use Rattle.theory.specs.ByAccount.{settings-is, clock-is, allowed-iff, refused-by, never-unsound, answered-iff, window-iff, brief}
 use Rattle.theory.specs.Meanings.{means}
 
 -- what honest words are claimed to be
@@ -30,10 +33,13 @@ holds {ws} i = record {
   refused-first = refused-by i;
   answered-iff = answered-iff i;
   answered = answered i;
+  window-iff = window-iff i;
+  window = crossed i;
   so-far = so-far (i .timed);
   brief = brief i;
   means = means i;
   alike = store-alike ws;
+  window-alike = window-alike ws;
 }
 
 -- a list of calls keeps words honest, refused ones and further starts included

@@ -1,17 +1,15 @@
 -- WHAT A LOOK-BACK ANSWERS IN CODE, and the words that it leaves: those of the definition (calls, `lookBack`), on any words and any two buffers.
 use mathlib.Core.Path.{_≡_}
-use mathlib.Core.Bool.{Bool, false, cond, _||_}
 use mathlib.Core.List.{List, [], _∷_}
 use Prim.Native.Nat.{ℕ, _*_, _≤_}
-use lib.Dec.{eqb, ltb}
 use lib.ListN.{getD}
 use Rattle.layout.specs.declared.head.Head.{Head}
-use Rattle.layout.specs.Sizes.{OPEN, rowLen, layoutLen}
-use Rattle.layout.specs.RefusalNumbers.{SHORT-STORE, TIME-OPEN, LATE, SHORT-BUFFER, UNSOUND}
+use Rattle.layout.specs.Sizes.{OPEN, rowLen}
 use Rattle.calls.specs.Calls.{Row, View, Answer, Shown, Refused as RefusedBy}
 use Rattle.calls.specs.Walk.{Pass, Looked, unsoundly, looked}
-use Rattle.calls.specs.Refusals.{Test, refusal, isOpen}
+use Rattle.calls.specs.Refusals.{lookBackOwn}
 use Rattle.calls.specs.LookBack.{lookBack, lookAt, seen, viewOf, rowWords, written}
+use Rattle.queries.specs.Own.{OwnRefusal}
 use Rattle.timeslice.specs.declared.Slice.{Slice}
 use Rattle.timeslice.specs.declared.SliceAnswer.{SliceAnswer}
 use Rattle.timeslice.specs.declared.SliceAnswer.the-variants.{Answered, Refused}
@@ -51,24 +49,6 @@ pub record Answers (ws : List ℕ) (t : ℕ) (rows list : List ℕ) (r : SliceAn
   pub row-words : rows′ ≡ seen rows list (lookAt ws t) .rows
   pub list-words : list′ ≡ seen rows list (lookAt ws t) .list
 
--- the refusals after the head's, for a store, a row buffer and a list of these lengths; the last is the walk's
-abbrev pub ownTests : Head → ℕ → ℕ → ℕ → ℕ → Bool → List Test
-ownTests h words t rows list unsound =
-    record { number = SHORT-STORE; applies = ltb words (layoutLen (h .settings)) }
-    ∷ record { number = TIME-OPEN; applies = isOpen t }
-    ∷ record { number = LATE; applies = ltb (h .cursor .clock) t }
-    ∷ record { number = SHORT-BUFFER; applies = ltb rows (rowLen * h .settings .tags) || ltb list (h .settings .blocks) }
-    ∷ record { number = UNSOUND; applies = unsound } ∷ []
-
--- none of them but the walk's applies, so that the store and both buffers are long enough
-pub record OwnNone (h : Head) (words t rows list : ℕ) : Type 0 where
-  pub long : layoutLen (h .settings) ≤ words
-  pub long-rows : rowLen * h .settings .tags ≤ rows
-  pub long-list : h .settings .blocks ≤ list
-  pub left : (unsound : Bool) → refusal (ownTests h words t rows list unsound) ≡ cond unsound UNSOUND 0
-
--- what they come to before the walk: n is the first of 4, 5, 7 and 11 that applies, whatever the walk says; or 0
-pub data OwnRefusal (h : Head) (words t rows list : ℕ) : ℕ → Type 0 where
-  turned : {n : ℕ} → ((unsound : Bool) → refusal (ownTests h words t rows list unsound) ≡ n) → (eqb n 0 || eqb n UNSOUND) ≡ false
-      → OwnRefusal h words t rows list n
-  free : OwnNone h words t rows list → OwnRefusal h words t rows list 0
+-- what its own tests come to before the walk, for buffers of these lengths: n is the first of 5, 7 and 11 that applies; or 0, and both are long enough
+pub record SliceRefusal (h : Head) (t rows list n : ℕ) : Type 0 where
+  pub own : OwnRefusal (λ unsound. lookBackOwn h t rows list unsound) ((rowLen * h .settings .tags ≤ rows) × (h .settings .blocks ≤ list)) n

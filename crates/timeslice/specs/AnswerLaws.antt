@@ -1,26 +1,23 @@
 -- The whole look-back's answers: the refusals in their order, and what search and path come to.
 use mathlib.Core.Path.{_≡_, refl, sym, ap, _∙_}
+use mathlib.Core.Logic.{_≢_}
 use mathlib.Core.Bool.{Bool, true, false, cond, _||_}
 use mathlib.Core.List.{List}
-use Prim.Native.Nat.{ℕ, suc, _+_, _≤_}
+use Prim.Native.Nat.{ℕ, suc, _≤_}
 use native.Mathlib.Omega.{arith}
-use lib.Dec.{eqb, ltb}
+use lib.Dec.{eqb}
 use lib.ListN.{length}
-use lib.Seq.{sets, sets-eq}
-use borrow.Author.Tests.{eq-eqb, ne-eqb, lt-ltb, le-ltb}
-use Rattle.base.specs.Branch.{by-test}
+use borrow.Author.Tests.{lt-ltb, le-ltb}
 use Rattle.layout.specs.declared.head.Head.{Head}
-use Rattle.layout.specs.declared.head.HeadAnswer.the-variants.{Read, Refused as HeadRefused}
-use Rattle.layout.specs.Sizes.{OPEN, headLen}
-use Rattle.layout.specs.RefusalNumbers.{SHORT-HEAD, HEAD, UNSOUND}
-use Rattle.layout.specs.SettingsLaws.{within-limits}
-use Rattle.layout.specs.Head.{badHead, headAnswer, headOf}
-use Rattle.layout.specs.HeadLaws.{HeadRead, bad-head, rule-fill}
-use Rattle.layout.specs.OnWords.{fits-held}
+use Rattle.layout.specs.RefusalNumbers.{UNSOUND}
+use Rattle.layout.specs.Head.{headOf}
 use Rattle.calls.specs.Calls.{Row, Refused as RefusedBy}
 use Rattle.calls.specs.Walk.{Reader, Finding, found, Pass, Walk, unsound, path, search, Looked, unsoundly, looked, within, look}
-use Rattle.calls.specs.Refusals.{refusal, lookBackTests}
-use Rattle.calls.specs.LookBack.{lookBack, lookAt, seen, viewOf, rowWords, written, zeros, isUnsound, reader, passedOn}
+use Rattle.calls.specs.Refusals.{refusal, lookBackOwn, lookBackTests}
+use Rattle.calls.specs.LookBack.{lookBack, lookAt, seen, viewOf, rowWords, zeros, isUnsound, reader, passedOn}
+use Rattle.queries.specs.Readable.{Readable, Opens}
+use Rattle.queries.specs.OpenLaws.{shut-by, own-free, own-refused, own-passed}
+use Rattle.queries.specs.RowLaws.{words-length, sets-written}
 use Rattle.timeslice.specs.declared.Counts.{Counts}
 use Rattle.timeslice.specs.declared.Slice.{Slice}
 use Rattle.timeslice.specs.declared.SliceAnswer.{SliceAnswer}
@@ -32,14 +29,13 @@ use Rattle.timeslice.specs.declared.index.Searched.{Searched}
 use Rattle.timeslice.specs.declared.index.Searched.the-variants.{At, Unsound as Nowhere}
 use Rattle.timeslice.specs.declared.walk.Walked.{Walked}
 use Rattle.timeslice.specs.declared.walk.Walked.the-variants.{Done, Unsound as Stopped}
-use Rattle.timeslice.specs.TakenLaws.{words-length}
-use Rattle.timeslice.specs.Told.{WalkTold, over, bad, PathTold, Readable, Buffers, Reach}
+use Rattle.timeslice.specs.Told.{WalkTold, over, bad, PathTold, Buffers, Reach}
 use Rattle.timeslice.specs.ToldLaws.{told-found}
 use Rattle.timeslice.specs.PathLaws.{path-short}
 use Rattle.timeslice.specs.VisitLaws.{short-found}
 use Rattle.timeslice.specs.Searching.{pathStart, searchedOf}
 use Rattle.timeslice.specs.SearchLaws.{search-few}
-use Rattle.timeslice.specs.Answer.{sliceOf, view, number, LookedBack, WalkSays, whole, broken, Answers, ownTests, OwnNone, OwnRefusal, turned, free}
+use Rattle.timeslice.specs.Answer.{sliceOf, view, number, LookedBack, WalkSays, whole, broken, Answers, SliceRefusal}
 
 -- ---- the whole call, by its first refusal
 -- none but the walk's
@@ -64,48 +60,27 @@ module _ (ws : List ℕ) (t : ℕ) (rows list : List ℕ) where
       let e : lookBack ws t rows list ≡ seen rows list (lookAt ws t) = rw (q, walk-only (isUnsound (lookAt ws t))) in
       record { answer = rw e (a .answer); row-words = a .row-words ∙ rw e; list-words = a .list-words ∙ rw e }
 
-  -- The head is refused.
-  pub head-refused : {n : ℕ} → headAnswer ws ≡ HeadRefused n → LookedBack ws t rows list (Refused n) rows list
-  unfolding headAnswer
-  head-refused {n} = by-test (ltb (length ws) headLen)
-      (λ b. cond b (HeadRefused SHORT-HEAD) (cond (badHead ws) (HeadRefused HEAD) (Read (headOf ws))) ≡ HeadRefused n
-      → LookedBack ws t rows list (Refused n) rows list)
-      (λ e q. let z : n ≡ SHORT-HEAD = cc in rw z (refused-is SHORT-HEAD (rw e) refl))
-      (λ e. by-test (badHead ws)
-      (λ b. cond b (HeadRefused HEAD) (Read (headOf ws)) ≡ HeadRefused n → LookedBack ws t rows list (Refused n) rows list)
-      (λ g q. let z : n ≡ HEAD = cc in rw z (refused-is HEAD (rw (e, g)) refl))
-      (λ g q. absurd (let z : _≡_ {A = ℕ} 0 1 = cc in omega arith)))
+  -- The store is refused,
+  pub store-refused : {n : ℕ} → Opens ws n → n ≢ 0 → LookedBack ws t rows list (Refused n) rows list
+  store-refused {n} o d =
+      let z = shut-by o d in
+      refused-is n (z .0 (lookBackOwn (headOf ws) t (length rows) (length list) (isUnsound (lookAt ws t)))) (z .1)
 
--- A head that was read passes refusals 2 and 3, so that the call's own tests decide.
-own-decide : {ws : List ℕ} {h : Head} → HeadRead ws h → (t : ℕ) (rows list : List ℕ)
-    → first ws t rows list ≡ refusal (ownTests h (length ws) t (length rows) (length list) (isUnsound (lookAt ws t)))
-own-decide {ws} {h} read t rows list =
-    let g = read .sound in
-    let b : badHead ws ≡ false = bad-head ws (read .is) (eq-eqb _ _ (read .marked)) (within-limits _ (g .within)) (le-ltb _ _ (g .opened))
-    (ne-eqb (h .cursor .clock) OPEN (λ e. omega (arith, g .clock))) (read .spare) (rule-fill h g) in
-    rw (le-ltb _ _ (read .long), b, ← (read .is))
+  -- or one of its own tests applies,
+  pub slice-refused : {n m : ℕ} {h : Head} → Opens ws n → n ≡ 0 → h ≡ headOf ws → SliceRefusal h t (length rows) (length list) m → m ≢ 0
+      → LookedBack ws t rows list (Refused m) rows list
+  slice-refused {m = m} o z e w d =
+      let p = own-refused (λ x u. lookBackOwn x t (length rows) (length list) u) o z e (isUnsound (lookAt ws t)) (w .own) d in
+      refused-is m (p .0) (p .1)
 
--- One of them applies,
-pub own-refused : {ws : List ℕ} {h : Head} {t : ℕ} {rows list : List ℕ} {n : ℕ} → HeadRead ws h → OwnRefusal h (length ws) t (length rows) (length list) n
-    → (n ≡ 0 → ⊥) → LookedBack ws t rows list (Refused n) rows list
-own-refused {ws} {h} {t} {rows} {list} {n} read (turned q e) z = refused-is ws t rows list n (own-decide read t rows list ∙ q (isUnsound (lookAt ws t))) e
-own-refused read (free p) z = absurd (z refl)
+  -- or none does, and the walk may run: its answer is the call's.
+  pub slice-answers : {n m : ℕ} {h : Head} {r : SliceAnswer} {rows′ list′ : List ℕ} → Opens ws n → n ≡ 0 → h ≡ headOf ws
+      → SliceRefusal h t (length rows) (length list) m → m ≡ 0 → Answers ws t rows list r rows′ list′ → LookedBack ws t rows list r rows′ list′
+  slice-answers o z e w k a =
+      seen-is (own-passed (λ x u. lookBackOwn x t (length rows) (length list) u) o z e (isUnsound (lookAt ws t)) (own-free (w .own) k)) a
 
--- or none does,
-pub own-free : {h : Head} {words t rows list n : ℕ} → OwnRefusal h words t rows list n → n ≡ 0 → OwnNone h words t rows list
-own-free (turned q e) z = absurd (let y : true ≡ false = rw z at e in let x : _≡_ {A = ℕ} 0 1 = cc in omega arith)
-own-free (free p) z = p
-
--- and the walk may run: its answer is the call's.
-pub read-ready : {ws : List ℕ} {h : Head} {t rows list : ℕ} → HeadRead ws h → OwnNone h (length ws) t rows list → Readable ws h
-read-ready read p = record { is = read .is; sound = read .sound; held = fits-held (record { long = p .long }) (read .sound .within) }
-
-pub buffers-ready : {h : Head} {words t : ℕ} {rows list : List ℕ} → OwnNone h words t (length rows) (length list) → Buffers (h .settings) rows list
-buffers-ready p = record { long-rows = p .long-rows; long-list = p .long-list }
-
-pub own-passed : {ws : List ℕ} {h : Head} {t : ℕ} {rows list : List ℕ} {r : SliceAnswer} {rows′ list′ : List ℕ} → HeadRead ws h
-    → OwnNone h (length ws) t (length rows) (length list) → Answers ws t rows list r rows′ list′ → LookedBack ws t rows list r rows′ list′
-own-passed {ws} {t = t} {rows} {list} read p a = seen-is ws t rows list (own-decide read t rows list ∙ p .left (isUnsound (lookAt ws t))) a
+pub buffers-ready : {h : Head} {t m : ℕ} {rows list : List ℕ} → SliceRefusal h t (length rows) (length list) m → m ≡ 0 → Buffers (h .settings) rows list
+buffers-ready w k = let p = own-free (w .own) k in record { long-rows = p .room .0; long-list = p .room .1 }
 
 -- ---- search and path
 -- what was searched, taken apart
@@ -131,10 +106,6 @@ slice-is {m} {s} r l ps e f g q =
     let page1 : s .page1 ≡ passedOn 1 ps = ap (λ (x : PathStart). x .page1) q in
     let page2 : s .page2 ≡ passedOn 2 ps = ap (λ (x : PathStart). x .page2) q in
     rw (counts-are e read g, page0, page1, page2)
-
--- words set from the start on
-sets-written : (z buffer : List ℕ) → length z ≤ length buffer → sets buffer 0 z ≡ written z buffer
-sets-written z buffer h = let k : 0 + length z ≡ length z = omega arith in sets-eq z buffer 0 (omega arith) ∙ rw k
 
 -- the walk from nothing counted: more than d rows, or an unsound link, is unsound
 told-unsound : {d : ℕ} {rows list rows′ list′ : List ℕ} {n : Counts} (ps : List Pass) {w : Walk} → n .rows ≡ 0 → WalkTold d rows list n w Stopped rows′ list′

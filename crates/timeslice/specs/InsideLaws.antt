@@ -9,7 +9,7 @@ use Rattle.layout.specs.Address.{Numbered}
 use Rattle.layout.specs.Fields.{leftWord, childWord}
 use Rattle.layout.specs.Parts.{blockWord}
 use Rattle.calls.specs.Walk.{Reader, visit}
-use Rattle.timeslice.specs.ToldLaws.{word-is}
+use Rattle.queries.specs.BlockLaws.{word-is}
 use Rattle.timeslice.specs.Listed.{Listed, VisitListed, childOf, leftOf, InsideListed, ListRoom, InsideRoom}
 use Rattle.timeslice.specs.VisitLaws.{visit-short, short-found}
 use Rattle.timeslice.specs.ListedLaws.{listed-then, listed-stop, listed-found}

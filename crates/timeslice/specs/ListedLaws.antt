@@ -14,6 +14,8 @@ use Rattle.layout.specs.Fields.{closedWord}
 use Rattle.layout.specs.Parts.{blockWord}
 use Rattle.calls.specs.Calls.{Row}
 use Rattle.calls.specs.Walk.{Reader, Walk, found, andThen, rowsOf, visit}
+use Rattle.queries.specs.BlockLaws.{word-is}
+use Rattle.queries.specs.RowLaws.{sets-append}
 use Rattle.timeslice.specs.declared.Counts.{Counts}
 use Rattle.timeslice.specs.declared.rows.Took.{Took}
 use Rattle.timeslice.specs.declared.rows.Took.the-variants.{Rows, TooMany}
@@ -21,9 +23,8 @@ use Rattle.timeslice.specs.declared.walk.Walked.the-variants.{Done, Unso
 use Rattle.timeslice.specs.declared.walk.Entered.{Entered}
 use Rattle.timeslice.specs.declared.walk.Entered.the-variants.{Within, Ended, Unsound}
 use Rattle.timeslice.specs.Taken.{Takes}
-use Rattle.timeslice.specs.TakenLaws.{sets-append}
 use Rattle.timeslice.specs.Told.{WalkTold, bad, VisitTold, Gap}
-use Rattle.timeslice.specs.ToldLaws.{word-is, taken-all, taken-many}
+use Rattle.timeslice.specs.ToldLaws.{taken-all, taken-many}
 use Rattle.timeslice.specs.Listed.{rowsIn, Listed, every, none, VisitListed, InsideListed, Enters, within, ended, broken, ListRoom, InsideRoom, RowBuffer}
 use Rattle.timeslice.specs.VisitLaws.{with-fuel, visit-short, short-found, visit-follows, follows-rows, follows-all}
 

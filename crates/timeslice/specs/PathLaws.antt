@@ -16,6 +16,8 @@ use Rattle.layout.specs.Fields.{closedWord, upWord, leftWord, childWord}
 use Rattle.layout.specs.Parts.{blockWord}
 use Rattle.calls.specs.Walk.{Reader, andThen, rowsOf, neighbour, visit, path}
 use Rattle.calls.specs.LookBack.{reader}
+use Rattle.queries.specs.Readable.{Readable}
+use Rattle.queries.specs.BlockLaws.{word-is}
 use Rattle.timeslice.specs.declared.Counts.{Counts}
 use Rattle.timeslice.specs.declared.rows.Took.{Took}
 use Rattle.timeslice.specs.declared.rows.Took.the-variants.{Rows, TooMany}
@@ -25,8 +27,8 @@ use Rattle.timeslice.specs.declared.walk.PathBlock.{PathBlock}
 use Rattle.timeslice.specs.declared.walk.Climbed.{Climbed}
 use Rattle.timeslice.specs.declared.walk.Climbed.the-variants.{On, Unsound as NotOn}
 use Rattle.timeslice.specs.Taken.{Takes}
-use Rattle.timeslice.specs.Told.{WalkTold, bad, VisitTold, PathTold, Climbs, on, above, full, upOf, Readable, Space, Gap, Reach, Under}
-use Rattle.timeslice.specs.ToldLaws.{word-is, told-then, told-stop, told-none, told-found, taken-all, taken-many, buffers-same}
+use Rattle.timeslice.specs.Told.{WalkTold, bad, VisitTold, PathTold, Climbs, on, above, full, upOf, Space, Gap, Reach, Under}
+use Rattle.timeslice.specs.ToldLaws.{told-then, told-stop, told-none, told-found, taken-all, taken-many, buffers-same}
 use Rattle.timeslice.specs.VisitLaws.{with-fuel, Short, none, few, listed-short, visit-short, short-found}
 
 -- ---- a path from n lists no more than n blocks

@@ -17,10 +17,10 @@ use Rattle.layout.specs.OnWords.{held-fits}
 use Rattle.layout.specs.PartsLaws.{LevelPart, PagePart}
 use Rattle.calls.specs.Walk.{Reader, Finding, unsound, found, Pass, lastUpTo, entries, topLevel, passing, lookUp, descend, search}
 use Rattle.calls.specs.LookBack.{reader}
+use Rattle.queries.specs.Readable.{Readable}
 use Rattle.timeslice.specs.declared.index.PathStart.{PathStart}
 use Rattle.timeslice.specs.declared.index.Searched.{Searched}
 use Rattle.timeslice.specs.declared.index.Searched.the-variants.{At, Unsound}
-use Rattle.timeslice.specs.Told.{Readable}
 use Rattle.timeslice.specs.Searching.{pathStart, searchedOf, passOver, Level, OnPage, OnEntry}
 
 -- ---- a page, from its last entry on

@@ -1,13 +1,12 @@
 -- Rows taken one after another are taken in one.
-use mathlib.Core.Path.{_≡_, refl, sym, ap, _∙_}
+use mathlib.Core.Path.{_≡_, refl, sym, _∙_}
 use mathlib.Core.Bool.{Bool, true, false, _&&_}
-use mathlib.Core.List.{List, [], _∷_, _++_}
+use mathlib.Core.List.{List, _++_}
 use Prim.Native.Nat.{ℕ, zero, suc, _+_, _*_, _≤_, _<_}
 use native.Mathlib.Numerals.{add-one}
 use native.Mathlib.Omega.{arith}
 use lib.Dec.{leb}
 use lib.ListN.{length, set, length-append}
-use lib.Seq.{sets}
 use borrow.Author.Tests.{lt-ltb, le-ltb, le-leb, lt-leb}
 use Rattle.base.specs.Branch.{lt?}
 use Rattle.layout.specs.declared.payload.Payload.{Payload}
@@ -17,30 +16,10 @@ use Rattle.layout.specs.Parts.{slotWord}
 use Rattle.layout.specs.Payload.{payloadIn}
 use Rattle.calls.specs.Calls.{Row}
 use Rattle.calls.specs.Walk.{rowOf, rowsOf}
-use Rattle.calls.specs.LookBack.{rowWords}
+use Rattle.queries.specs.RowLaws.{rows-append}
 use Rattle.timeslice.specs.declared.rows.Took.{Took}
 use Rattle.timeslice.specs.declared.rows.Took.the-variants.{Rows, TooMany}
 use Rattle.timeslice.specs.Taken.{Takes, all, many}
-
--- ---- words set one after another
-pub sets-append : (ws : List ℕ) (i : ℕ) (xs ys : List ℕ) → sets ws i (xs ++ ys) ≡ sets (sets ws i xs) (i + length xs) ys
-sets-append ws i [] ys = ap (λ (k : ℕ). sets ws k ys) (omega arith)
-sets-append ws i (x ∷ xs) ys = sets-append (set ws i x) (suc i) xs ys ∙ ap (λ (k : ℕ). sets (sets (set ws i x) (suc i) xs) k ys) (omega arith)
-
-pub words-append : (r r′ : List Row) → rowWords (r ++ r′) ≡ rowWords r ++ rowWords r′
-words-append [] r′ = refl
-words-append (x ∷ r) r′ = rw (words-append r r′)
-
-pub words-length : (r : List Row) → length (rowWords r) ≡ rowLen * length r
-words-length [] = refl
-words-length (x ∷ r) = omega (arith, words-length r)
-
--- rows written behind others
-pub rows-append : (ws : List ℕ) (given : ℕ) (r r′ : List Row)
-    → sets ws (rowLen * given) (rowWords (r ++ r′)) ≡ sets (sets ws (rowLen * given) (rowWords r)) (rowLen * (given + length r)) (rowWords r′)
-rows-append ws given r r′ =
-    let e : rowLen * given + length (rowWords r) ≡ rowLen * (given + length r) = omega (arith, words-length r) in
-    rw (words-append r r′, ← e) (sets-append ws (rowLen * given) (rowWords r) (rowWords r′))
 
 -- ---- one slot
 add-two : (n : ℕ) → n + 2 ≡ suc (suc n)

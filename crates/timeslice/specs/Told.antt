@@ -6,14 +6,10 @@ use Prim.Native.Nat.{ℕ, _+_, _*_, _-_, _≤_, _<_}
 use lib.ListN.{length}
 use lib.Seq.{sets}
 use Rattle.layout.specs.declared.settings.Settings.{Settings}
-use Rattle.layout.specs.declared.head.Head.{Head}
 use Rattle.layout.specs.Sizes.{rowLen}
 use Rattle.layout.specs.Address.{Numbered}
 use Rattle.layout.specs.Fields.{upWord}
-use Rattle.layout.specs.Head.{headOf}
-use Rattle.layout.specs.HeadLaws.{SoundHead}
 use Rattle.layout.specs.Parts.{blockWord}
-use Rattle.layout.specs.OnWords.{Held}
 use Rattle.calls.specs.Calls.{Row}
 use Rattle.calls.specs.Walk.{Reader, Walk, unsound, found, rowsOf, neighbour, visit, path}
 use Rattle.calls.specs.LookBack.{rowWords}
@@ -69,17 +65,6 @@ pub data Climbs (s : Settings) (t : ℕ) (R : Reader) (rows list : List ℕ) (n 
       → Climbs s t R rows list n number NotOn rows′ list′
 
 -- ---- what is asked
--- the store whose head is h, at least as long as its layout
-pub record Readable (ws : List ℕ) (h : Head) : Type 0 where
-  pub is : h ≡ headOf ws
-  pub sound : SoundHead h
-  pub held : Held (h .settings) ws
-
--- the same of the blocks alone: s are the settings in the head
-pub record Blocks (ws : List ℕ) (s : Settings) : Type 0 where
-  pub is : s ≡ headOf ws .settings
-  pub held : Held s ws
-
 -- both buffers are long enough: refusal 11 does not apply
 pub record Buffers (s : Settings) (rows list : List ℕ) : Type 0 where
   pub long-rows : rowLen * s .tags ≤ length rows

@@ -6,20 +6,16 @@ use native.Mathlib.Omega.{arith}
 use lib.ListN.{length, length-append}
 use lib.Seq.{sets}
 use Rattle.layout.specs.declared.settings.Settings.{Settings}
-use Rattle.layout.specs.declared.head.Head.{Head}
-use Rattle.layout.specs.Parts.{blockWord}
-use Rattle.layout.specs.PartsLaws.{BlockPart}
 use Rattle.calls.specs.Calls.{Row}
 use Rattle.calls.specs.Walk.{Walk, unsound, found, andThen}
-use Rattle.calls.specs.LookBack.{reader}
+use Rattle.queries.specs.RowLaws.{sets-append, rows-append}
 use Rattle.timeslice.specs.declared.Counts.{Counts}
 use Rattle.timeslice.specs.declared.rows.Took.{Took}
 use Rattle.timeslice.specs.declared.rows.Took.the-variants.{Rows, TooMany as MoreThan}
 use Rattle.timeslice.specs.declared.walk.Walked.{Walked}
 use Rattle.timeslice.specs.declared.walk.Walked.the-variants.{Done, Unsound}
 use Rattle.timeslice.specs.Taken.{Takes, all, many as more}
-use Rattle.timeslice.specs.TakenLaws.{sets-append, rows-append}
-use Rattle.timeslice.specs.Told.{Filled, WalkTold, done, over, bad, Readable, Blocks, Buffers}
+use Rattle.timeslice.specs.Told.{Filled, WalkTold, done, over, bad, Buffers}
 
 -- ---- one walk after another
 module _ (d : ℕ) (rows list : List ℕ) (n : Counts) where
@@ -74,22 +70,6 @@ module _ {d : ℕ} {rows list : List ℕ} {n : Counts} {r : List Row} {l : List 
 
   pub taken-many : x ≡ MoreThan → {list′ : List ℕ} → WalkTold d rows list n (found r l) Unsound rows′ list′
   taken-many e = many-told (rw e at taken)
-
--- ---- the block that the code is handed is the reader's
-pub blocks-of : {ws : List ℕ} {h : Head} → Readable ws h → Blocks ws (h .settings)
-blocks-of r = record { is = rw (r .is); held = r .held }
-
-pub part-is : {ws : List ℕ} {s : Settings} {number : ℕ} {block : List ℕ} → Blocks ws s → BlockPart s ws number block → block ≡ reader ws .block number
-unfolding reader
-part-is r p = p .is ∙ rw (r .is)
-
-pub block-is : {ws : List ℕ} {h : Head} {number : ℕ} {block : List ℕ} → Readable ws h → BlockPart (h .settings) ws number block
-    → block ≡ reader ws .block number
-block-is r p = part-is (blocks-of r) p
-
--- so a word of the one is the other's
-pub word-is : {block it : List ℕ} (j : ℕ) {w : ℕ} → block ≡ it → w ≡ blockWord block j → w ≡ blockWord it j
-word-is j is e = e ∙ rw is
 
 -- buffers that a call was lent are as long as before
 pub buffers-same : {s : Settings} {rows list rows₁ list₁ : List ℕ} → Buffers s rows list → length rows₁ ≡ length rows → length list₁ ≡ length list

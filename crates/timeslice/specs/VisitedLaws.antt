@@ -11,12 +11,12 @@ use Rattle.base.specs.Sums.{All, nil, cons}
 use Rattle.layout.specs.Fields.{closedWord}
 use Rattle.layout.specs.Parts.{blockWord}
 use Rattle.calls.specs.Walk.{Reader, rowsOf}
+use Rattle.queries.specs.BlockLaws.{word-is}
 use Rattle.timeslice.specs.declared.rows.Took.{Took}
 use Rattle.timeslice.specs.declared.rows.Took.the-variants.{Rows, TooMany}
 use Rattle.timeslice.specs.Taken.{Takes, all}
 use Rattle.timeslice.specs.TakenLaws.{taken-more, still-many}
 use Rattle.timeslice.specs.Listed.{rowsAt, rowsIn}
-use Rattle.timeslice.specs.ToldLaws.{word-is}
 use Rattle.timeslice.specs.VisitLaws.{rows-append}
 
 -- every block of a list is numbered, so that one is

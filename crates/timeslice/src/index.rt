@@ -11,8 +11,8 @@ ghost use lib.ListN.{length};
 ghost use Rattle.layout.specs.Sizes.{pageLen};
 ghost use Rattle.calls.specs.Walk.{lastUpTo, entries as entriesOf, topLevel, lookUp, descend as descendOf, search as searchOf};
 ghost use Rattle.calls.specs.LookBack.{reader};
+ghost use Rattle.queries.specs.Readable.{Readable};
 ghost use Rattle.timeslice.specs.Searching.{pathStart, passOver, searchedOf, Level, OnPage, OnEntry};
-ghost use Rattle.timeslice.specs.Told.{Readable};
 
 // The block that starts the path, 0 if there is none; the pages read, and on each level the page passed, OPEN if none.
 pub struct PathStart {

@@ -7,14 +7,14 @@ mod walk;
 use index::Searched;
 use layout::head;
 use layout::head::Head;
-use layout::head::HeadAnswer;
 use layout::parts;
 use layout::refusal;
 use walk::Walked;
 ghost use Rattle.layout.specs.Settings.{Within};
 ghost use Rattle.calls.specs.LookBack.{lookAt};
-ghost use Rattle.timeslice.specs.Told.{Readable, Buffers};
-ghost use Rattle.timeslice.specs.Answer.{LookedBack, WalkSays, Answers, OwnRefusal};
+ghost use Rattle.queries.specs.Readable.{Readable};
+ghost use Rattle.timeslice.specs.Told.{Buffers};
+ghost use Rattle.timeslice.specs.Answer.{LookedBack, WalkSays, Answers, SliceRefusal};
 
 // Rows given, pages read and blocks listed.
 pub struct Counts {
@@ -42,14 +42,11 @@ pub enum WalkAnswer {
     Unsound,
 }
 
-// Refusals 4, 5, 7 and 11, in order, for a head that was read; 0 if none applies.
-fn turned_away(words: usize, h: Head, second: u32, rows: usize, list: usize) -> u32
+// Refusals 5, 7 and 11, in order, for a store that was opened; 0 if none applies.
+fn turned_away(h: Head, second: u32, rows: usize, list: usize) -> u32
     requires { ⌜ Within (h .settings) ⌝ }
-    ensures { λ r. ⌜ OwnRefusal h words second rows list r ⌝ }
+    ensures { λ r. ⌜ SliceRefusal h second rows list r ⌝ }
 {
-    if words < h.settings.words() {
-        return refusal::SHORT_STORE;
-    }
     if second == layout::OPEN {
         return refusal::TIME_OPEN;
     }
@@ -113,14 +110,14 @@ pub fn look_back(store: &[u32], second: u32, rows: &mut [u32], list: &mut [u32])
     ensures { λ r. ⌜ LookedBack (now (store .entry)) second
         (now (rows .entry)) (now (list .entry)) r (now (rows .exit)) (now (list .exit)) ⌝ }
 {
-    match head::read_head(store) {
-        HeadAnswer::Refused(n) => SliceAnswer::Refused(n),
-        HeadAnswer::Read(h) => {
-            let n = turned_away(store.len(), h, second, rows.len(), list.len());
-            if n != 0 {
-                return SliceAnswer::Refused(n);
-            }
-            answer(store, h, second, rows, list)
-        }
+    let n = queries::open(store);
+    if n != 0 {
+        return SliceAnswer::Refused(n);
     }
+    let h = head::head_of(store);
+    let m = turned_away(h, second, rows.len(), list.len());
+    if m != 0 {
+        return SliceAnswer::Refused(m);
+    }
+    answer(store, h, second, rows, list)
 }

@@ -7,8 +7,8 @@ use layout::settings::Settings;
 ghost use Rattle.base.specs.Sums.{All};
 ghost use Rattle.layout.specs.Address.{Numbered};
 ghost use Rattle.calls.specs.LookBack.{reader};
+ghost use Rattle.queries.specs.Readable.{Blocks};
 ghost use Rattle.timeslice.specs.Taken.{Takes};
-ghost use Rattle.timeslice.specs.Told.{Blocks};
 ghost use Rattle.timeslice.specs.Listed.{rowsAt, rowsIn, RowBuffer};
 
 // The rows of one listed block, if it closes after t.

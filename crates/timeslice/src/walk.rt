@@ -11,7 +11,8 @@ ghost use mathlib.Core.Path.{_≡_};
 ghost use Rattle.layout.specs.Address.{Numbered};
 ghost use Rattle.calls.specs.Walk.{neighbour as neighbourOf};
 ghost use Rattle.calls.specs.LookBack.{reader};
-ghost use Rattle.timeslice.specs.Told.{VisitTold, PathTold, Climbs, Readable, Blocks, Space, Gap, Reach, Under};
+ghost use Rattle.queries.specs.Readable.{Readable, Blocks};
+ghost use Rattle.timeslice.specs.Told.{VisitTold, PathTold, Climbs, Space, Gap, Reach, Under};
 ghost use Rattle.timeslice.specs.Listed.{Enters, VisitListed, InsideListed, ListRoom, InsideRoom};
 
 // What a part of the walk comes to: all that is counted so far, or a link that is unsound or more rows than tags.

@@ -24,7 +24,7 @@ fn open_start(line: &[u8], len: usize) -> i32 {
     os::open_read(&line[..len])
 }
 
-fn open_in(line: &mut [u8; LINE_MOST], len: usize) -> i32 {
+pub(crate) fn open_in(line: &mut [u8; LINE_MOST], len: usize) -> i32 {
     if NAME_MOST < len {
         return -1;
     }
@@ -45,8 +45,24 @@ fn open_out(line: &mut [u8; LINE_MOST], len: usize) -> i32 {
     open_start(line, len + 4)
 }
 
+// A name is then shorter by four bytes.
+pub(crate) fn open_windows(line: &mut [u8; LINE_MOST], len: usize) -> i32 {
+    if NAME_MOST - 4 < len {
+        return -1;
+    }
+    put(line, len, b'.');
+    put(line, len + 1, b'w');
+    put(line, len + 2, b'i');
+    put(line, len + 3, b'n');
+    put(line, len + 4, b'd');
+    put(line, len + 5, b'o');
+    put(line, len + 6, b'w');
+    put(line, len + 7, b's');
+    open_start(line, len + 8)
+}
+
 // The name, and what is said of it.
-fn tell(line: &[u8], len: usize, what: &[u8]) {
+pub(crate) fn tell(line: &[u8], len: usize, what: &[u8]) {
     if line.len() < len {
         return;
     }
@@ -79,6 +95,12 @@ fn show_line(fd: i32, number: u64) {
 
 fn show_expected(line: &mut [u8; LINE_MOST], len: usize, number: u64) {
     let expected = open_out(line, len);
+    show_line(expected, number);
+    libc::close(expected);
+}
+
+pub(crate) fn show_window(line: &mut [u8; LINE_MOST], len: usize, number: u64) {
+    let expected = open_windows(line, len);
     show_line(expected, number);
     libc::close(expected);
 }

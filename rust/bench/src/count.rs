@@ -1,6 +1,7 @@
-//! One kind of call by one register, so that callgrind can count its instructions: only what runs inside `counted_change`
-//! or `counted_look_back` is counted (count.sh). Inputs, start and the calls of other kinds run outside.
-use crate::input::{self, Change, Kind};
+//! One kind of call by one register, so that callgrind can count its instructions: only what runs inside
+//! `counted_change`, `counted_look_back` or `counted_window` is counted (count.sh). Inputs, start and the calls of other
+//! kinds run outside.
+use crate::input::{self, Change, DAY, HOUR, Kind, MONTH, Span};
 use bench::{Answer, Calls, Independent, Proved, Refusal, Settings};
 use std::hint::black_box;
 
@@ -14,16 +15,20 @@ pub fn run(who: &str, what: &str, work: &str, block: &str) {
         "nothing" => count::<Nothing>,
         _ => panic!("no such register: {who}"),
     };
-    println!("{}", count(Kind::named(what), settings, changes));
+    println!("{}", count(what, settings, changes));
 }
 
 /// Makes the calls and gives how many were counted.
-fn count<R: Calls>(kind: Option<Kind>, settings: Settings, changes: &[Change]) -> usize {
+fn count<R: Calls>(what: &str, settings: Settings, changes: &[Change]) -> usize {
     let mut store = vec![0; settings.words()];
     Independent::start(&mut store, settings).expect("sound settings");
-    match kind {
-        Some(kind) => count_changes::<R>(&mut store, kind, changes),
-        None => count_look_backs::<R>(&mut store, settings, changes),
+    match what {
+        "sets" => count_changes::<R>(&mut store, Kind::Set, changes),
+        "clears" => count_changes::<R>(&mut store, Kind::Clear, changes),
+        "readings" => count_changes::<R>(&mut store, Kind::Update, changes),
+        "lookbacks" => count_look_backs::<R>(&mut store, settings, changes),
+        "windows" => count_windows::<R>(&mut store, settings, changes),
+        _ => panic!("no such calls: {what}"),
     }
 }
 
@@ -46,11 +51,16 @@ fn count_changes<R: Calls>(store: &mut [u32], kind: Kind, changes: &[Change]) ->
     counted
 }
 
-/// Look-backs, at 100 seconds each of old, middle and recent, on the store after all changes.
-fn count_look_backs<R: Calls>(store: &mut [u32], settings: Settings, changes: &[Change]) -> usize {
+/// All changes, by the independent register and not counted.
+fn make_changes(store: &mut [u32], changes: &[Change]) {
     for change in changes {
         input::apply::<Independent>(store, change).expect("the changes are cut at the first refusal");
     }
+}
+
+/// Look-backs, at 100 seconds each of old, middle and recent, on the store after all changes.
+fn count_look_backs<R: Calls>(store: &mut [u32], settings: Settings, changes: &[Change]) -> usize {
+    make_changes(store, changes);
     let (mut rows, mut list) = (vec![0; settings.row_words()], vec![0; settings.blocks as usize]);
     let call: LookBackCall = |store, t, rows, list| R::look_back(store, t, rows, list).is_ok();
     let seconds: Vec<u32> = [5, 50, 99].into_iter().flat_map(|from| input::seconds(changes, from, 100)).collect();
@@ -60,8 +70,22 @@ fn count_look_backs<R: Calls>(store: &mut [u32], settings: Settings, changes: &[
     seconds.len()
 }
 
+/// Windows, 20 each of an hour, a day and a month, on the store after all changes.
+fn count_windows<R: Calls>(store: &mut [u32], settings: Settings, changes: &[Change]) -> usize {
+    make_changes(store, changes);
+    let mut rows = vec![0; settings.row_words()];
+    let call: WindowCall = |store, window, rows| R::window(store, window.first, window.last, rows).is_ok();
+    let windows: Vec<Span> =
+        [HOUR, DAY, MONTH].into_iter().flat_map(|seconds| input::windows(changes, seconds, 20)).collect();
+    for &window in &windows {
+        assert!(counted_window(call, store, window, &mut rows), "the windows are not after the clock");
+    }
+    windows.len()
+}
+
 type ChangeCall = fn(&mut [u32], &Change) -> bool;
 type LookBackCall = fn(&[u32], u32, &mut [u32], &mut [u32]) -> bool;
+type WindowCall = fn(&[u32], Span, &mut [u32]) -> bool;
 
 /// What callgrind counts of a change.
 #[inline(never)]
@@ -75,6 +99,13 @@ fn counted_change(call: ChangeCall, store: &mut [u32], change: &Change) -> bool 
 #[unsafe(no_mangle)]
 fn counted_look_back(call: LookBackCall, store: &[u32], t: u32, rows: &mut [u32], list: &mut [u32]) -> bool {
     black_box(call)(store, t, rows, list)
+}
+
+/// What callgrind counts of a window.
+#[inline(never)]
+#[unsafe(no_mangle)]
+fn counted_window(call: WindowCall, store: &[u32], window: Span, rows: &mut [u32]) -> bool {
+    black_box(call)(store, window, rows)
 }
 
 /// A register that does nothing: what the functions around a call cost.
@@ -103,5 +134,9 @@ impl Calls for Nothing {
     fn look_back(store: &[u32], second: u32, rows: &mut [u32], list: &mut [u32]) -> Result<Answer, Refusal> {
         black_box((store.len(), second, rows.len(), list.len()));
         Ok(Answer { rows: 0, pages: 0, blocks: 0, page: [0; 3] })
+    }
+    fn window(store: &[u32], first: u32, last: u32, rows: &mut [u32]) -> Result<u32, Refusal> {
+        black_box((store.len(), first, last, rows.len()));
+        Ok(0)
     }
 }

@@ -6,7 +6,9 @@ use std::collections::BinaryHeap;
 
 pub const TAGS: u32 = 4096;
 pub const BLOCKS: u32 = 4096;
-const DAY: u32 = 86_400;
+pub const HOUR: u32 = 3_600;
+pub const DAY: u32 = 86_400;
+pub const MONTH: u32 = 30 * DAY;
 
 #[derive(Clone, Copy, Debug, PartialEq, Eq)]
 pub enum Kind {
@@ -15,25 +17,26 @@ pub enum Kind {
     Update,
 }
 
-impl Kind {
-    /// The kind of change that a word of the command line asks for; none for look-backs.
-    pub fn named(what: &str) -> Option<Kind> {
-        match what {
-            "sets" => Some(Kind::Set),
-            "clears" => Some(Kind::Clear),
-            "readings" => Some(Kind::Update),
-            "lookbacks" => None,
-            _ => panic!("no such calls: {what}"),
-        }
-    }
-}
-
 #[derive(Clone, Copy, Debug)]
 pub struct Change {
     pub second: u32,
     pub tag: u32,
     pub reading: i32,
     pub kind: Kind,
+}
+
+/// A first and a last second, both included.
+#[derive(Clone, Copy, Debug)]
+pub struct Span {
+    pub first: u32,
+    pub last: u32,
+}
+
+impl Span {
+    /// So many seconds, up to this one; fewer if there are not as many.
+    pub fn up_to(last: u32, seconds: u32) -> Span {
+        Span { first: (last + 1).saturating_sub(seconds), last }
+    }
 }
 
 /// The settings of the benchmark: q is a quarter of b.
@@ -174,4 +177,12 @@ pub fn seconds(changes: &[Change], from: u32, how_many: u32) -> Vec<u32> {
     let last = changes.last().map_or(0, |change| change.second);
     let (first, width) = (u64::from(last) * u64::from(from) / 100, u64::from(last) / 100);
     (0..how_many).map(|i| (first + width * u64::from(i) / u64::from(how_many)) as u32).collect()
+}
+
+/// Windows of so many seconds, which end at seconds spread over all of a history that have as many before them.
+pub fn windows(changes: &[Change], seconds: u32, how_many: u32) -> Vec<Span> {
+    let end = changes.last().map_or(0, |change| change.second);
+    let (earliest, parts) = (end.min(seconds - 1), u64::from(how_many));
+    let later = |i: u64| (u64::from(end - earliest) * i / parts) as u32;
+    (1..=parts).map(|i| Span::up_to(earliest + later(i), seconds)).collect()
 }

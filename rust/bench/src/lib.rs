@@ -19,6 +19,7 @@
 //! let answer = Independent::look_back(&store, 11, &mut rows, &mut list)?;
 //! assert_eq!((answer.rows, answer.blocks), (1, 1));
 //! assert_eq!((rows[0], rows[1] as i32, rows[2]), (3, -25, 10)); // since second 10
+//! assert_eq!(Independent::window(&store, 11, 12, &mut rows), Ok(1)); // one tag stood from 11 to 12
 //! # Ok::<(), Refusal>(())
 //! ```
 mod answer;
@@ -38,8 +39,8 @@ pub use settings::{ROW, Settings};
 /// An end not yet known, and no second: the largest word.
 pub const OPEN: u32 = u32::MAX;
 
-/// The six calls. A refused call leaves all words as they were, except that a look-back refused with
-/// [`Refusal::UNSOUND`] fills both its buffers with zeros.
+/// The seven calls. A refused call leaves all words as they were, except that a look-back or window refused with
+/// [`Refusal::UNSOUND`] fills its buffers with zeros.
 pub trait Calls {
     /// Begins a new history: fills the layout with zeros, then the head. Words beyond the layout are untouched.
     fn start(store: &mut [u32], settings: Settings) -> Result<(), Refusal>;
@@ -55,4 +56,8 @@ pub trait Calls {
     /// of the condition's last set or new reading; `list` (at least B words) gets the numbers of the blocks read. Words
     /// after those keep their contents.
     fn look_back(store: &[u32], second: u32, rows: &mut [u32], list: &mut [u32]) -> Result<Answer, Refusal>;
+    /// What stood at some second from a first to a last, both included. `rows` (at least 3 D words) gets each tag that
+    /// stood then, in ascending order, with reading and since of its latest standing there; words after those keep
+    /// their contents. Answers the number of rows.
+    fn window(store: &[u32], first: u32, last: u32, rows: &mut [u32]) -> Result<u32, Refusal>;
 }

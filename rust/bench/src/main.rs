@@ -10,11 +10,12 @@ mod measure;
 mod plot;
 mod report;
 mod rivals;
+mod windows;
 
 use std::path::Path;
 
 const USAGE: &str = "usage: bench [write FOLDER | count WHO WHAT year|stress B | put NAME FOLDER]
-FOLDER: has BENCHMARKS.md; WHO: proved, independent or nothing; WHAT: sets, clears, readings or lookbacks";
+FOLDER: has BENCHMARKS.md; WHO: proved, independent or nothing; WHAT: sets, clears, readings, lookbacks or windows";
 
 fn main() {
     let words: Vec<String> = std::env::args().skip(1).collect();
@@ -47,11 +48,14 @@ fn benchmark(folder: Option<&Path>) {
     }
     let year = input::year();
     let growth: Vec<_> = [16, 64].into_iter().map(|block| (block, measure::growth(&year, block))).collect();
-    let tables = report::tables(&settings, &growth);
+    let crossings: Vec<_> = [8, 16, 64].into_iter().map(|block| (block, windows::setting(&year, block))).collect();
+    let window_growth: Vec<_> = [16, 64].into_iter().map(|block| (block, windows::growth(&year, block))).collect();
+    let mut tables = report::tables(&settings, &growth);
+    tables += &report::window_tables(&crossings, &window_growth);
     println!("{tables}");
     if let Some(folder) = folder {
         report::put(folder, "measured", &tables);
-        let plot = plot::svg(&settings[2], &growth[1].1);
+        let plot = plot::svg(&settings[2], &growth[1].1, &window_growth[1].1);
         std::fs::write(folder.join("benchmarks.svg"), plot).expect("the folder can be written");
     }
 }

@@ -92,7 +92,7 @@ fn given<'a>(contender: &dyn Contender, changes: &'a [Change]) -> &'a [Change] {
 }
 
 /// For each contender the median of its times, taken in turns.
-fn rounds(contenders: &mut [Box<dyn Contender>], time: impl Fn(&mut dyn Contender) -> f64) -> Vec<f64> {
+pub fn rounds<C: ?Sized>(contenders: &mut [Box<C>], time: impl Fn(&mut C) -> f64) -> Vec<f64> {
     let mut times = vec![Vec::new(); contenders.len()];
     for _ in 0..ROUNDS {
         for (contender, times) in contenders.iter_mut().zip(&mut times) {
@@ -117,12 +117,17 @@ fn time_changes(contender: &mut dyn Contender, changes: &[Change]) -> f64 {
 }
 
 /// Seconds for one look-back.
-pub fn time_looks(contender: &mut dyn Contender, seconds: &[u32]) -> f64 {
+fn time_looks(contender: &mut dyn Contender, seconds: &[u32]) -> f64 {
+    time_queries(seconds, |few| contender.look_all(few))
+}
+
+/// Seconds for one of these, which are asked for a few at a time.
+pub fn time_queries<Q>(queries: &[Q], mut ask: impl FnMut(&[Q]) -> u64) -> f64 {
     let begun = Instant::now();
     let mut done = 0;
     while begun.elapsed() < LEAST {
-        for few in seconds.chunks(8) {
-            contender.look_all(few);
+        for few in queries.chunks(8) {
+            ask(few);
             done += few.len();
             if begun.elapsed() > 4 * LEAST {
                 break;

@@ -1,18 +1,19 @@
 //! The plot: bars of look-backs per second, and lines of cost over history length, as plain SVG.
 use crate::measure::{AGES, Growth, Setting};
 use crate::report::number;
+use crate::windows::Crossing;
 use std::fmt::Write;
 
 const COLOURS: [&str; 5] = ["#1b6ca8", "#7fb7de", "#c27c0e", "#7a8b2f", "#8c4a6d"];
 
 /// A picture of the year with this b: bars on the left, growth on the right.
-pub fn svg(setting: &Setting, growth: &[Growth]) -> String {
+pub fn svg(setting: &Setting, growth: &[Growth], windows: &[Crossing]) -> String {
     let mut text = String::from(
         "<svg xmlns='http://www.w3.org/2000/svg' width='1000' height='400' font-family='sans-serif' font-size='12'>\n",
     );
     text.push_str("<rect width='1000' height='400' fill='white'/>\n");
     bars(setting, &mut text);
-    lines(setting.block, growth, &mut text);
+    lines(setting.block, growth, windows, &mut text);
     text.push_str("</svg>\n");
     text
 }
@@ -81,7 +82,7 @@ fn bars(setting: &Setting, text: &mut String) {
     }
 }
 
-fn lines(block: u32, growth: &[Growth], text: &mut String) {
+fn lines(block: u32, growth: &[Growth], windows: &[Crossing], text: &mut String) {
     let frame = Frame { left: 610.0, width: 340.0, low: 1.0, high: 7.0 };
     frame.draw(&format!("Nanoseconds by history length, year, b = {block}"), text);
     let x = |i: usize| frame.left + frame.width * (i as f64 + 0.5) / growth.len() as f64;
@@ -91,6 +92,7 @@ fn lines(block: u32, growth: &[Growth], text: &mut String) {
     label(frame.left + frame.width / 2.0, BOTTOM + 36.0, "middle", "changes so far (doubling)", text);
     let series = [
         ("log: look-back", COLOURS[2], growth.iter().map(|at| at.look_us[2] * 1e3).collect::<Vec<_>>()),
+        ("proved: window of a day", COLOURS[0], windows.iter().map(|at| at.us[0] * 1e3).collect()),
         ("proved: look-back", COLOURS[0], growth.iter().map(|at| at.look_us[0] * 1e3).collect()),
         ("proved: change", COLOURS[0], growth.iter().map(|at| at.change_ns[0]).collect()),
     ];

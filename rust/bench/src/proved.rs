@@ -31,6 +31,12 @@ impl Calls for Proved {
         Proved::look_back_words(store, second, rows, list, &mut answer)?;
         Ok(Answer::from_words(answer))
     }
+
+    fn window(store: &[u32], first: u32, last: u32, rows: &mut [u32]) -> Result<u32, Refusal> {
+        let mut answer = [0];
+        Proved::window_words(store, first, last, rows, &mut answer)?;
+        Ok(answer[0])
+    }
 }
 
 impl Proved {
@@ -43,6 +49,17 @@ impl Proved {
         answer: &mut [u32; 6],
     ) -> Result<(), Refusal> {
         Refusal::told(calls::look_back(store, second, rows, list, answer))
+    }
+
+    /// A window that writes its number of rows where the caller says; a refusal leaves it.
+    pub fn window_words(
+        store: &[u32],
+        first: u32,
+        last: u32,
+        rows: &mut [u32],
+        answer: &mut [u32; 1],
+    ) -> Result<(), Refusal> {
+        Refusal::told(calls::window(store, first, last, rows, answer))
     }
 
     /// Makes the calls of a journal: entries read, entries accepted.

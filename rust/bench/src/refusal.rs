@@ -1,9 +1,9 @@
-//! The thirteen numbered refusals, by the names that the whole project uses. Where several apply to a call, it is given
-//! the first.
+//! The fourteen numbered refusals, by the names that the whole project uses. Where several apply to a call, it is given
+//! the first, by number, but that 14 comes right after 5.
 use std::fmt;
 use std::num::NonZeroU32;
 
-/// Why a call was turned away: document 01's number.
+/// Why a call was turned away: document 01's number, or document 02's.
 #[derive(Clone, Copy, PartialEq, Eq, Hash)]
 pub struct Refusal(NonZeroU32);
 
@@ -16,11 +16,11 @@ impl Refusal {
     pub const HEAD: Refusal = Refusal::numbered(3);
     /// The store is shorter than its layout.
     pub const SHORT_STORE: Refusal = Refusal::numbered(4);
-    /// The time is OPEN.
+    /// The time is OPEN; of a window, either of the two.
     pub const TIME_OPEN: Refusal = Refusal::numbered(5);
     /// A change or clock move is earlier than the clock.
     pub const EARLY: Refusal = Refusal::numbered(6);
-    /// A look-back is later than the clock.
+    /// A look-back, or the last second of a window, is later than the clock.
     pub const LATE: Refusal = Refusal::numbered(7);
     /// The tag is D or more.
     pub const TAG: Refusal = Refusal::numbered(8);
@@ -34,6 +34,8 @@ impl Refusal {
     pub const UNSOUND: Refusal = Refusal::numbered(12);
     /// The change would open a block and none is left.
     pub const OUT_OF_BLOCKS: Refusal = Refusal::numbered(13);
+    /// The last second of a window is before its first.
+    pub const REVERSED: Refusal = Refusal::numbered(14);
 
     /// The refusal of a number that is not 0; for use in constants.
     const fn numbered(number: u32) -> Refusal {
@@ -52,7 +54,7 @@ impl Refusal {
         }
     }
 
-    /// The number, 1 to 13.
+    /// The number, 1 to 14.
     pub const fn number(self) -> u32 {
         self.0.get()
     }

@@ -1,5 +1,6 @@
 //! The measured tables as Markdown, and their place in the page BENCHMARKS.md.
 use crate::measure::{AGES, Figures, Growth, Setting};
+use crate::windows::Crossing;
 use std::fmt::Write;
 use std::path::Path;
 
@@ -159,6 +160,51 @@ fn growths(growth: &[(u32, Vec<Growth>)], text: &mut String) {
             );
         }
     }
+}
+
+pub fn window_tables(crossings: &[(u32, Vec<Crossing>)], growth: &[(u32, Vec<Crossing>)]) -> String {
+    let mut text = String::from("\n### Windows, year: how many times as fast the proved register is\n\n");
+    text.push_str("| b | changes | window | rows | blocks read | of | independent | log | SQLite |\n");
+    text.push_str("|---|---|---|---|---|---|---|---|---|\n");
+    window_rows(crossings, &mut text, |at, rival| ratio(at.us[rival] / at.us[0]), 1);
+    text.push_str("\n### Windows, year: microseconds each\n\n");
+    text.push_str("| b | changes | window | rows | blocks read | of | proved | independent | log | SQLite |\n");
+    text.push_str("|---|---|---|---|---|---|---|---|---|---|\n");
+    window_rows(crossings, &mut text, |at, who| micros(at.us[who]), 0);
+    text.push_str("\n### Growth with history length, windows of a day at recent seconds, microseconds each\n\n");
+    text.push_str("| b | changes so far | window | rows | blocks read | of | proved | independent | log | SQLite |\n");
+    text.push_str("|---|---|---|---|---|---|---|---|---|---|\n");
+    window_rows(growth, &mut text, |at, who| micros(at.us[who]), 0);
+    text
+}
+
+/// A row for each length of window, with a figure for each contender from the given one on.
+fn window_rows(
+    crossings: &[(u32, Vec<Crossing>)],
+    text: &mut String,
+    figure: impl Fn(&Crossing, usize) -> String,
+    from: usize,
+) {
+    for (block, lengths) in crossings {
+        for at in lengths {
+            let all = (from..4).map(|who| if who < at.us.len() { figure(at, who) } else { "-".into() });
+            let _ = writeln!(
+                text,
+                "| {block} | {} | {} | {:.0} | {:.0} | {} | {} |",
+                at.changes,
+                at.name,
+                at.rows,
+                at.read,
+                at.opened,
+                all.collect::<Vec<_>>().join(" | ")
+            );
+        }
+    }
+}
+
+/// Microseconds, to three places.
+fn micros(us: f64) -> String {
+    if us < 10.0 { format!("{us:.1}") } else { number(us) }
 }
 
 /// A contender's name, with how much it was given if that is less than all.

@@ -6,7 +6,7 @@ pub const BLOCK_HEAD: usize = 8;
 /// Words of a record: tag, reading, from, to, since.
 pub const RECORD: usize = 5;
 
-/// Words of a row that a look-back gives: tag, reading, since.
+/// Words of a row that a look-back or window gives: tag, reading, since.
 pub const ROW: usize = 3;
 
 /// b, q, B and D of document 01. A start turns away those outside their limits.

@@ -32,7 +32,7 @@ fn honest_store(s: Settings, rng: &mut Rng) -> Vec<u32> {
     let temper = rng.pick(&TEMPERS);
     for _ in 0..rng.below(4 * s.block * s.blocks.min(12)) {
         let call = history.draw(temper, rng);
-        if !matches!(call, Call::LookBack { .. }) && common::pair::change::<Proved>(&mut store, call).is_ok() {
+        if !call.is_query() && common::pair::change::<Proved>(&mut store, call).is_ok() {
             history.follow(call);
         }
     }
@@ -62,20 +62,34 @@ fn draw_call(s: Settings, store: &[u32], rng: &mut Rng) -> Call {
         5..9 => Call::Clear { second, tag },
         9..12 => Call::Update { second, tag, reading },
         12 => Call::Advance { second },
-        _ => draw_look_back(s, store, rng),
+        13..17 => draw_look_back(s, store, rng),
+        _ => draw_window(s, store, rng),
+    }
+}
+
+/// A second to ask about, mostly up to the clock.
+fn draw_past(s: Settings, store: &[u32], rng: &mut Rng) -> u32 {
+    let clock = store[6];
+    match rng.below(8) {
+        0 => edge(s, store, rng),
+        1 | 2 => clock,
+        _ => rng.below(clock.max(1)),
     }
 }
 
 fn draw_look_back(s: Settings, store: &[u32], rng: &mut Rng) -> Call {
-    let clock = store[6];
-    let second = match rng.below(8) {
-        0 => edge(s, store, rng),
-        1 | 2 => clock,
-        _ => rng.below(clock.max(1)),
-    };
+    let second = draw_past(s, store, rng);
     let (rows, list) = (s.row_words(), s.blocks as usize);
     let (less, more) = (usize::from(rng.chance(1, 60)), rng.below(3) as usize);
     Call::LookBack { second, rows: rows + more - less * rng.below(2) as usize, list: list + more - less }
+}
+
+/// A window, mostly with its two seconds in order.
+fn draw_window(s: Settings, store: &[u32], rng: &mut Rng) -> Call {
+    let (one, other) = (draw_past(s, store, rng), draw_past(s, store, rng));
+    let (first, last) = if rng.chance(1, 12) { (one, other) } else { (one.min(other), one.max(other)) };
+    let less = usize::from(rng.chance(1, 60));
+    Call::Window { first, last, rows: s.row_words() + rng.below(3) as usize * (1 - less) - less }
 }
 
 /// Calls on a damaged store, each on what the one before left.
@@ -121,7 +135,7 @@ fn changed_words() {
             try_calls(s, pair, rng);
         }
     });
-    for number in [0, 3, 5, 6, 7, 8, 9, 10, 11, 12, 13] {
+    for number in [0, 3, 5, 6, 7, 8, 9, 10, 11, 12, 13, 14] {
         assert!(totals.by_number[number] > 100, "refusal {number} came {} times", totals.by_number[number]);
     }
 }
@@ -174,7 +188,7 @@ fn changed_words_of_many_blocks() {
         Proved::start(&mut honest, s).expect("sound settings");
         while honest[5] + 8 < blocks {
             let call = history.draw(TEMPERS[1], &mut rng);
-            if !matches!(call, Call::LookBack { .. }) && common::pair::change::<Proved>(&mut honest, call).is_ok() {
+            if !call.is_query() && common::pair::change::<Proved>(&mut honest, call).is_ok() {
                 history.follow(call);
             }
         }

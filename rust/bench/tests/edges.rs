@@ -35,6 +35,9 @@ fn all_calls(s: Settings) -> Vec<Call> {
             for list in [0, s.blocks as usize - 1, s.blocks as usize, s.blocks as usize + 1] {
                 calls.push(Call::LookBack { second, rows, list });
             }
+            for last in SECONDS {
+                calls.push(Call::Window { first: second, last, rows });
+            }
         }
     }
     calls

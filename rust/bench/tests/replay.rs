@@ -30,7 +30,7 @@ fn entry(call: Call) -> Option<Entry> {
         Call::Clear { second, tag } => Entry::Clear { second, tag },
         Call::Update { second, tag, reading } => Entry::Update { second, tag, reading },
         Call::Advance { second } => Entry::Advance { second },
-        Call::LookBack { .. } => return None,
+        Call::LookBack { .. } | Call::Window { .. } => return None,
     })
 }
 

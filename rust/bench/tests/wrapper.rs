@@ -5,7 +5,7 @@ use bench::{Answer, Calls, Independent, NONE, OPEN, ROW};
 use common::damage::{Map, one_word};
 use common::history::{History, TEMPERS, Temper};
 use common::{Call, Outcome, Rng, settings};
-use register::{LookBack, OwnedRegister, Reader, Refusal, Register, Row, Settings};
+use register::{LookBack, OwnedRegister, Reader, Refusal, Register, Row, Settings, Window};
 
 fn checked(s: bench::Settings) -> Settings {
     Settings::new(s.block, s.useful, s.blocks, s.tags).expect("sound settings")
@@ -21,6 +21,7 @@ struct Three {
     owned: OwnedRegister,
     independent: Vec<u32>,
     looked: u32,
+    crossed: u32,
 }
 
 impl Three {
@@ -28,12 +29,16 @@ impl Three {
         let (mut lent, mut independent) = (vec![7; s.words()], vec![7; s.words()]);
         Register::start(&mut lent, checked(s)).expect("a store of its length");
         Independent::start(&mut independent, s).expect("a store of its length");
-        Three { lent, owned: OwnedRegister::new(checked(s)), independent, looked: 0 }
+        Three { lent, owned: OwnedRegister::new(checked(s)), independent, looked: 0, crossed: 0 }
     }
 
     fn call(&mut self, call: Call) -> Outcome {
         if let Call::LookBack { second, rows, list } = call {
             self.look_back(second, rows, list);
+            return Ok(());
+        }
+        if let Call::Window { first, last, rows } = call {
+            self.window(first, last, rows);
             return Ok(());
         }
         let told = common::pair::change::<Independent>(&mut self.independent, call);
@@ -46,7 +51,7 @@ impl Three {
                 (register.update(second, tag, reading), owned.update(second, tag, reading))
             }
             Call::Advance { second } => (register.advance(second), owned.advance(second)),
-            Call::Start(_) | Call::LookBack { .. } => unreachable!("a history draws no start"),
+            Call::Start(_) | Call::LookBack { .. } | Call::Window { .. } => unreachable!("a history draws no start"),
         };
         let expected = told.err().map_or(0, bench::Refusal::number);
         assert_eq!((number(lent), number(owned)), (expected, expected), "{call:?}");
@@ -67,6 +72,24 @@ impl Three {
             same(answer, &row_words, &list_words, &owned.expect("its buffers are long enough"));
         } else if told != Err(bench::Refusal::SHORT_BUFFER) {
             assert_eq!(number(owned), expected, "owned look-back at {second}");
+        }
+    }
+
+    fn window(&mut self, first: u32, last: u32, rows: usize) {
+        let mut row_words = vec![0; rows];
+        let told = Independent::window(&self.independent, first, last, &mut row_words);
+        let mut rows = vec![5; rows];
+        let lent = Reader::open(&self.lent).expect("a register").window(first, last, &mut rows);
+        let expected = told.map_or_else(bench::Refusal::number, |_| 0);
+        assert_eq!(number(lent), expected, "window from {first} to {last}");
+        let owned = self.owned.window(first, last);
+        if let Ok(count) = told {
+            self.crossed += 1;
+            let (tags, words) = (self.independent[4], &row_words[..ROW * count as usize]);
+            same_window(tags, words, &lent.expect("as told"));
+            same_window(tags, words, &owned.expect("its buffer is long enough"));
+        } else if told != Err(bench::Refusal::SHORT_BUFFER) {
+            assert_eq!(number(owned), expected, "owned window from {first} to {last}");
         }
     }
 
@@ -93,7 +116,19 @@ fn same<W: AsRef<[u32]>>(answer: Answer, row_words: &[u32], list: &[u32], told: 
     assert_eq!(told.pages().iter().flatten().count(), answer.pages as usize, "each page read is passed");
 }
 
-fn run(s: bench::Settings, temper: Temper, seed: u64) -> u32 {
+/// A window's rows are those of the words, and each tag has the one row or none.
+fn same_window<W: AsRef<[u32]>>(tags: u32, row_words: &[u32], told: &Window<W>) {
+    let words = row_words.as_chunks::<ROW>().0.iter();
+    let rows: Vec<Row> = words.map(|&[tag, reading, since]| Row { tag, reading: reading as i32, since }).collect();
+    assert!(told.rows().eq(rows.iter().copied()));
+    assert_eq!(told.rows().len(), rows.len());
+    for tag in (0..tags).chain([tags, OPEN]) {
+        assert_eq!(told.row(tag), rows.iter().copied().find(|row| row.tag == tag));
+    }
+}
+
+/// How many look-backs and windows were answered.
+fn run(s: bench::Settings, temper: Temper, seed: u64) -> (u32, u32) {
     let mut rng = Rng::new(seed);
     let (mut three, mut history) = (Three::new(s), History::new(s));
     for i in 0..400 {
@@ -106,22 +141,24 @@ fn run(s: bench::Settings, temper: Temper, seed: u64) -> u32 {
         }
     }
     three.compare();
-    three.looked
+    (three.looked, three.crossed)
 }
 
 #[test]
 fn histories() {
-    let (mut looked, mut seed) = (0, 20_000);
+    let (mut looked, mut crossed, mut seed) = (0, 0, 20_000);
     for (b, q, blocks, tags) in [(2, 1, 40, 9), (4, 2, 8, 16), (5, 2, 300, 30), (33, 16, 20, 70), (64, 32, 4, 100)] {
         for temper in TEMPERS {
             for _ in 0..6 {
                 seed += 1;
-                looked += run(settings(b, q, blocks, tags), temper, seed);
+                let (some_looked, some_crossed) = run(settings(b, q, blocks, tags), temper, seed);
+                looked += some_looked;
+                crossed += some_crossed;
             }
         }
     }
-    println!("wrapper, histories: {looked} answered look-backs");
-    assert!(looked > 2_000);
+    println!("wrapper, histories: {looked} answered look-backs, {crossed} answered windows");
+    assert!(looked > 2_000 && crossed > 2_000);
 }
 
 /// What the independent implementation says of a store's head: a clock move to OPEN meets refusals 2, 3 and 4, then 5.

@@ -8,6 +8,7 @@
 //! Why this is safe: a slice is passed as its pointer and its number of words (include/register.h), and the proofs
 //! assume of a caller what Rust's borrows give: the words are there, aligned, and no two lent parts overlap while one
 //! of them is written. A look-back may take 190 bytes of stack for each of B blocks; a thread's usual 2 MB hold 4,096.
+//! A window takes some 17 KB.
 //!
 //! ```
 //! use register::{Refusal, calls};
@@ -35,6 +36,15 @@ mod export {
             list: *mut u32,
             list_words: usize,
             answer: *mut [u32; 6],
+        ) -> u32;
+        pub fn register_window(
+            store: *const u32,
+            words: usize,
+            first: u32,
+            last: u32,
+            rows: *mut u32,
+            rows_words: usize,
+            answer: *mut [u32; 1],
         ) -> u32;
         pub fn register_words(block: u32, useful: u32, blocks: u32, tags: u32) -> usize;
         pub fn register_replay(
@@ -125,6 +135,17 @@ pub fn look_back(store: &[u32], second: u32, rows: &mut [u32], list: &mut [u32],
             answer,
         )
     }
+}
+
+/// What stood at some second from `first` to `last`, both included. `rows` gets tag, reading and since of each tag's
+/// latest standing there ([`Row`](crate::Row)), in ascending order of tags, `answer` their number. Words after the rows
+/// keep their contents, and a refusal leaves `answer`.
+/// Refusals, in this order: 2, 3, 4, 5, 14, 7, 11, 12.
+#[inline]
+#[must_use = "0 is accepted, any other number a refusal"]
+pub fn window(store: &[u32], first: u32, last: u32, rows: &mut [u32], answer: &mut [u32; 1]) -> u32 {
+    // SAFETY: pointers and lengths are those of borrowed slices, and Rust's borrows keep the three apart.
+    unsafe { export::register_window(store.as_ptr(), store.len(), first, last, rows.as_mut_ptr(), rows.len(), answer) }
 }
 
 /// Words of a store with these settings, as the register counts them; 0 where a start would refuse them.

@@ -3,8 +3,8 @@ use crate::Settings;
 use core::iter::FusedIterator;
 use core::slice;
 
-/// An entry of a journal: a change, a clock move or a start, as it was called, accepted or not. Look-backs are not in
-/// it, since they leave the store as it is.
+/// An entry of a journal: a change, a clock move or a start, as it was called, accepted or not. Look-backs and windows
+/// are not in it, since they leave the store as it is.
 ///
 /// A journal is a run of words, six an entry: its kind and five numbers, of which a kind uses the first ones. It tells
 /// nothing of a store's layout, so it carries a register from one [version](crate#versions) to the next.

@@ -1,20 +1,6 @@
 //! What a look-back answers.
-use crate::OPEN;
 use crate::settings::ROW_WORDS;
-use core::iter::FusedIterator;
-use core::slice;
-
-/// A condition that stood at the second asked for.
-#[derive(Clone, Copy, Debug, PartialEq, Eq, PartialOrd, Ord, Hash)]
-pub struct Row {
-    /// The condition's tag.
-    pub tag: u32,
-    /// Its reading then, in daN.
-    pub reading: i32,
-    /// The second of its last set or new reading, however often the register has copied its record. An equal reading
-    /// counts too: if this is to tell for how long, send a new reading only when it changed.
-    pub since: u32,
-}
+use crate::{OPEN, Rows};
 
 /// The three numbers of a look-back.
 #[derive(Clone, Copy, Debug, PartialEq, Eq, Hash)]
@@ -85,7 +71,7 @@ impl<W> LookBack<W> {
 impl<W: AsRef<[u32]>> LookBack<W> {
     /// The rows, in the order in which the register found them; no tag comes twice after a history of calls.
     pub fn rows(&self) -> Rows<'_> {
-        Rows { words: self.rows.as_ref().as_chunks().0.iter() }
+        Rows::of(self.rows.as_ref())
     }
 
     /// The reading list: the numbers, from 1, of the blocks that were read, in their order.
@@ -94,36 +80,3 @@ impl<W: AsRef<[u32]>> LookBack<W> {
         self.list.as_ref()
     }
 }
-
-/// The rows of a [`LookBack`].
-#[derive(Clone, Debug)]
-#[must_use = "iterators are lazy and do nothing unless consumed"]
-pub struct Rows<'l> {
-    words: slice::Iter<'l, [u32; ROW_WORDS]>,
-}
-
-fn row([tag, reading, since]: [u32; ROW_WORDS]) -> Row {
-    Row { tag, reading: reading.cast_signed(), since }
-}
-
-impl Iterator for Rows<'_> {
-    type Item = Row;
-
-    fn next(&mut self) -> Option<Row> {
-        self.words.next().copied().map(row)
-    }
-
-    fn size_hint(&self) -> (usize, Option<usize>) {
-        self.words.size_hint()
-    }
-}
-
-impl DoubleEndedIterator for Rows<'_> {
-    fn next_back(&mut self) -> Option<Row> {
-        self.words.next_back().copied().map(row)
-    }
-}
-
-impl ExactSizeIterator for Rows<'_> {}
-
-impl FusedIterator for Rows<'_> {}

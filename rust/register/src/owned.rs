@@ -1,10 +1,10 @@
 //! A register that holds its own words.
-use crate::{Entry, LookBack, Reader, Refusal, Register, Settings, Tally, calls};
+use crate::{Entry, LookBack, Reader, Refusal, Register, Settings, Tally, Window, calls};
 use alloc::vec;
 use alloc::vec::Vec;
 use core::fmt;
 
-/// A register with words of its own, and look-backs that need no buffers. Needs the feature `alloc`.
+/// A register with words of its own, and look-backs and windows that need no buffers. Needs the feature `alloc`.
 ///
 /// ```
 /// use register::{OwnedRegister, Refusal, Row, Settings};
@@ -14,6 +14,7 @@ use core::fmt;
 /// register.clear(12, 3)?;
 /// let told: Vec<Row> = register.look_back(11)?.rows().collect();
 /// assert_eq!(told, [Row { tag: 3, reading: -25, since: 10 }]);
+/// assert_eq!(register.window(0, 12)?.row(3), Some(told[0]));
 ///
 /// let saved: Vec<u32> = register.into_words(); // to a file, say, and from it
 /// let register = OwnedRegister::open(saved)?;
@@ -97,11 +98,21 @@ impl OwnedRegister {
         let (mut rows, mut list) = (vec![0; settings.row_words()], vec![0; settings.list_words()]);
         let mut answer = [0; 6];
         Refusal::result_of(calls::look_back(&self.store, second, &mut rows, &mut list, &mut answer))?;
-        let cut = |mut words: Vec<u32>, count| {
-            words.truncate(count);
-            words
-        };
         Ok(LookBack::new(rows, list, answer, cut))
+    }
+
+    /// What stood at some second from `first` to `last`, both included, in words that the answer holds. `last` may be
+    /// the clock, but not after it; what a row tells, see [`Reader::window`].
+    ///
+    /// # Errors
+    ///
+    /// [`Refusal::TimeOpen`], [`Refusal::Reversed`], [`Refusal::Late`]; [`Refusal::Unsound`] if the words were no
+    /// history's.
+    pub fn window(&self, first: u32, last: u32) -> Result<Window<Vec<u32>>, Refusal> {
+        let mut rows = vec![0; self.settings().row_words()];
+        let mut answer = [0];
+        Refusal::result_of(calls::window(&self.store, first, last, &mut rows, &mut answer))?;
+        Ok(Window::new(rows, answer, cut))
     }
 
     /// Makes the call of a journal's entry: see [`Register::apply`]. A start that needs more words is refused.
@@ -149,6 +160,12 @@ impl OwnedRegister {
     pub fn into_words(self) -> Vec<u32> {
         self.store
     }
+}
+
+/// The first words of a buffer, as many as were filled.
+fn cut(mut words: Vec<u32>, count: usize) -> Vec<u32> {
+    words.truncate(count);
+    words
 }
 
 impl fmt::Debug for OwnedRegister {

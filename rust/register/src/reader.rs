@@ -1,5 +1,5 @@
 //! A register that is lent to be read.
-use crate::{LookBack, OPEN, Refusal, Settings, calls};
+use crate::{LookBack, OPEN, Refusal, Settings, Window, calls};
 use core::fmt;
 
 /// Numbers of the head's words that are read here (docs/LAYOUT.md).
@@ -99,6 +99,22 @@ impl<'a> Reader<'a> {
         let mut answer = [0; 6];
         Refusal::result_of(calls::look_back(self.store, second, rows, list, &mut answer))?;
         Ok(LookBack::new(rows, list, answer, |words, count| &words[..count]))
+    }
+
+    /// What stood at some second from `first` to `last`, both included: each tag once, as it stood last. `last` may be
+    /// the clock, but not after it: the window is not cut there. A row does not tell whether the tag still stood at
+    /// `last`, nor when it ended; its since may lie before `first`. `rows` needs [`Settings::row_words`] words, and
+    /// their contents do not matter.
+    ///
+    /// # Errors
+    ///
+    /// [`Refusal::TimeOpen`] for either second, [`Refusal::Reversed`], [`Refusal::Late`] for `last`,
+    /// [`Refusal::ShortBuffer`]; [`Refusal::Unsound`], with the buffer filled with zeros, if something else wrote the
+    /// store.
+    pub fn window<'b>(&self, first: u32, last: u32, rows: &'b mut [u32]) -> Result<Window<&'b [u32]>, Refusal> {
+        let mut answer = [0];
+        Refusal::result_of(calls::window(self.store, first, last, rows, &mut answer))?;
+        Ok(Window::new(rows, answer, |words, count| &words[..count]))
     }
 }
 

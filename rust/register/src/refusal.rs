@@ -1,9 +1,10 @@
-//! The thirteen refusals of a call.
+//! The fourteen refusals of a call.
 use core::fmt;
 
-/// Why a call was turned away, with document 01's number. Where several refusals apply, the one with the lowest number
-/// is given. A refused call leaves every word as it was, except that [`Refusal::Unsound`] of a look-back fills both
-/// its buffers with zeros.
+/// Why a call was turned away, with document 01's number (14 is document 02's). Where several refusals apply, the one
+/// with the lowest number is given, but that [`Refusal::Reversed`] comes right after [`Refusal::TimeOpen`]. A refused
+/// call leaves every word as it was, except that [`Refusal::Unsound`] of a look-back fills both its buffers with zeros,
+/// and that of a window its one.
 ///
 /// The names are those of `include/register.h` (`REGISTER_SHORT_HEAD` is [`Refusal::ShortHead`]). More may be added.
 ///
@@ -28,12 +29,12 @@ pub enum Refusal {
     /// The store is shorter than the layout of its settings: lend [`Settings::words`](crate::Settings::words) words,
     /// or all of a store that was cut short. One of an older [version](crate#versions) is shorter, too.
     ShortStore = 4,
-    /// The time is [`OPEN`](crate::OPEN), which is no second: pass a smaller one.
+    /// The time, of a window either of the two, is [`OPEN`](crate::OPEN), which is no second: pass a smaller one.
     TimeOpen = 5,
     /// A change or clock move is earlier than the clock. What is past stays as it is: pass the clock or a later second.
     Early = 6,
-    /// A look-back is later than the clock, at which nothing is known yet: move the clock first, or look at an earlier
-    /// second.
+    /// A look-back, or the last second of a window, is later than the clock, at which nothing is known yet: move the
+    /// clock first, or look at an earlier second.
     Late = 7,
     /// The tag is D or more: pass a smaller one, or start a register with more tags.
     Tag = 8,
@@ -41,21 +42,23 @@ pub enum Refusal {
     Standing = 9,
     /// A clear or new reading of a tag that does not stand: set it.
     NotStanding = 10,
-    /// A look-back's row buffer has fewer than [`Settings::row_words`](crate::Settings::row_words) words or its list
+    /// A row buffer has fewer than [`Settings::row_words`](crate::Settings::row_words) words, or a look-back's list
     /// fewer than [`Settings::list_words`](crate::Settings::list_words): lend longer ones.
     ShortBuffer = 11,
     /// A link, place or tag that the call needs is unsound: something else wrote the store. It is proved that this
     /// never comes after calls alone. Take an older copy of the store, of this [version](crate#versions), or rebuild it
     /// from a journal.
     Unsound = 12,
-    /// The change would open a block and none is left: keep this store for look-backs, and start another. The
-    /// repository's README.md, "When blocks run out", tells how.
+    /// The change would open a block and none is left: keep this store for look-backs and windows, and start another.
+    /// The repository's README.md, "When blocks run out", tells how.
     OutOfBlocks = 13,
+    /// The last second of a window is before its first: pass them in their order.
+    Reversed = 14,
 }
 
 impl Refusal {
     /// All refusals, by their numbers.
-    pub const ALL: [Refusal; 13] = [
+    pub const ALL: [Refusal; 14] = [
         Refusal::Settings,
         Refusal::ShortHead,
         Refusal::Head,
@@ -69,15 +72,16 @@ impl Refusal {
         Refusal::ShortBuffer,
         Refusal::Unsound,
         Refusal::OutOfBlocks,
+        Refusal::Reversed,
     ];
 
-    /// Document 01's number, which the exported calls answer: 1 to 13.
+    /// The paper's number, which the exported calls answer: 1 to 14.
     #[must_use]
     pub const fn number(self) -> u32 {
         self as u32
     }
 
-    /// The refusal of a number; none for 0, which is "accepted", and for those above 13.
+    /// The refusal of a number; none for 0, which is "accepted", and for those above 14.
     #[must_use]
     #[inline]
     pub const fn from_number(number: u32) -> Option<Refusal> {
@@ -95,6 +99,7 @@ impl Refusal {
             11 => Refusal::ShortBuffer,
             12 => Refusal::Unsound,
             13 => Refusal::OutOfBlocks,
+            14 => Refusal::Reversed,
             _ => return None,
         })
     }
@@ -107,13 +112,13 @@ impl Refusal {
     ///
     /// # Panics
     ///
-    /// If the number is above 13: the archive is newer than this wrapper and has refusals that it does not know.
+    /// If the number is above 14: the archive is newer than this wrapper and has refusals that it does not know.
     #[inline]
     pub fn result_of(number: u32) -> Result<(), Refusal> {
         match Refusal::from_number(number) {
             Some(refusal) => Err(refusal),
             None if number == 0 => Ok(()),
-            None => panic!("libregister.a answered {number}: it is newer than this wrapper, which knows 13 refusals"),
+            None => panic!("libregister.a answered {number}: it is newer than this wrapper, which knows 14 refusals"),
         }
     }
 
@@ -134,6 +139,7 @@ impl Refusal {
             Refusal::ShortBuffer => "the row buffer or the list is too short",
             Refusal::Unsound => "a link, place or tag in the store is unsound",
             Refusal::OutOfBlocks => "no block is left",
+            Refusal::Reversed => "the window ends before it begins",
         }
     }
 }

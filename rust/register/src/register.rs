@@ -1,5 +1,5 @@
 //! A register in lent words.
-use crate::{Entry, LookBack, Reader, Refusal, Settings, Tally, calls};
+use crate::{Entry, LookBack, Reader, Refusal, Settings, Tally, Window, calls};
 use core::fmt;
 
 /// A register in words that are lent. It keeps nothing elsewhere, so it may be dropped and opened again.
@@ -102,6 +102,15 @@ impl<'a> Register<'a> {
         list: &'b mut [u32],
     ) -> Result<LookBack<&'b [u32]>, Refusal> {
         self.reader().look_back(second, rows, list)
+    }
+
+    /// What stood at some second from `first` to `last`, which may not be after the clock: see [`Reader::window`].
+    ///
+    /// # Errors
+    ///
+    /// As for [`Reader::window`].
+    pub fn window<'b>(&self, first: u32, last: u32, rows: &'b mut [u32]) -> Result<Window<&'b [u32]>, Refusal> {
+        self.reader().window(first, last, rows)
     }
 
     /// Makes the call of a journal's entry; a start begins a new history, with its own settings.

@@ -113,7 +113,7 @@ impl Settings {
         Self::FIXED_WORDS + self.tags as usize + self.blocks as usize * block_words
     }
 
-    /// Words that a look-back's row buffer must have: a row for each tag.
+    /// Words that the row buffer of a look-back or window must have: a row for each tag.
     #[must_use]
     pub const fn row_words(&self) -> usize {
         ROW_WORDS * self.tags as usize

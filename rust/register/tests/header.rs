@@ -40,7 +40,7 @@ fn refusals_have_one_name() {
             (number, number, Some(refusal))
         );
     }
-    assert_eq!([0, 14, OPEN].map(Refusal::from_number), [None; 3]);
+    assert_eq!([0, 15, OPEN].map(Refusal::from_number), [None; 3]);
 }
 
 #[test]

@@ -11,6 +11,10 @@ static uint32_t look_back(uint32_t second) {
     return register_look_back(store, WORDS, second, rows, 48, list, 8, answer);
 }
 
+static uint32_t window(uint32_t first, uint32_t last) {
+    return register_window(store, WORDS, first, last, rows, 48, answer);
+}
+
 /* Whether row i has these words. */
 static int row(int i, uint32_t tag, int32_t reading, uint32_t since) {
     return REGISTER_TAG_OF(rows, i) == tag && REGISTER_READING_OF(rows, i) == reading
@@ -49,6 +53,21 @@ static int look(void) {
     return 0;
 }
 
+static int cross(void) {
+    CHECK(window(5, 7) == 0 && answer[REGISTER_ROWS] == 5 && row(0, 1, 25, 1) && row(1, 2, -25, 2));
+    CHECK(row(2, 3, 5, 3) && row(3, 4, 140, 4) && row(4, 5, 0, 5));
+    CHECK(window(7, 8) == 0 && answer[REGISTER_ROWS] == 3 && row(0, 1, 25, 1) && row(1, 4, 140, 4) && row(2, 5, 0, 5));
+    rows[6] = 77;
+    CHECK(window(8, 8) == 0 && answer[REGISTER_ROWS] == 2 && row(0, 4, 140, 4) && row(1, 5, 0, 5) && rows[6] == 77);
+    CHECK(window(0, 0) == 0 && answer[REGISTER_ROWS] == 0);
+    answer[REGISTER_ROWS] = 88;
+    CHECK(window(REGISTER_OPEN, 3) == REGISTER_TIME_OPEN && window(3, REGISTER_OPEN) == REGISTER_TIME_OPEN);
+    CHECK(window(9, 8) == REGISTER_REVERSED && window(8, 9) == REGISTER_LATE);
+    CHECK(register_window(store, WORDS, 5, 7, rows, 47, answer) == REGISTER_SHORT_BUFFER);
+    CHECK(answer[REGISTER_ROWS] == 88 && rows[0] == 4 && rows[6] == 77);
+    return 0;
+}
+
 static int turned_away(void) {
     CHECK(register_set(store, WORDS, 7, 6, 0) == REGISTER_EARLY);
     CHECK(register_set(store, WORDS, 8, 16, 0) == REGISTER_TAG);
@@ -73,6 +92,7 @@ static int told_apart(void) {
 int main(void) {
     int line = change();
     if (line == 0) line = look();
+    if (line == 0) line = cross();
     if (line == 0) line = turned_away();
     if (line == 0) line = told_apart();
     return line;

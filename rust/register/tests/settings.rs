@@ -23,7 +23,8 @@ fn limits() {
     assert!(fit > 1_000);
 }
 
-/// A start passes on as many words as the settings say and not on one fewer; so do the two buffers of a look-back.
+/// A start passes on as many words as the settings say and not on one fewer; so do the two buffers of a look-back, and
+/// the one of a window.
 #[test]
 fn lengths() {
     for (block, useful, blocks, tags) in [(2, 1, 1, 1), (4, 2, 8, 16), (33, 16, 100, 4096), (64, 32, 4096, 4096)] {
@@ -40,6 +41,8 @@ fn lengths() {
         assert_eq!(told.err(), Some(Refusal::ShortBuffer));
         let told = register.look_back(0, &mut rows, &mut list[1..]);
         assert_eq!(told.err(), Some(Refusal::ShortBuffer));
+        assert_eq!(register.window(0, 0, &mut rows).expect("a buffer of its length").rows().len(), 0);
+        assert_eq!(register.window(0, 0, &mut rows[1..]).err(), Some(Refusal::ShortBuffer));
     }
 }
 
@@ -56,6 +59,7 @@ fn blocks_left() {
     assert_eq!(register.set(6, 6, 0), Err(Refusal::OutOfBlocks));
     let (mut rows, mut list) = (vec![0; settings.row_words()], vec![0; settings.list_words()]);
     assert_eq!(register.look_back(5, &mut rows, &mut list).expect("a past second").rows().len(), 6);
+    assert_eq!(register.window(3, 5, &mut rows).expect("past seconds").rows().len(), 6);
 }
 
 /// The faces go from thread to thread, a register prints as its head, and a refusal is an error like others.

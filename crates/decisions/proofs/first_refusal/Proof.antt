@@ -1,10 +1,9 @@
 -- `first_refusal` meets its contract: the head first, then the second.
-use mathlib.Core.Path.{sym, ap, _∙_}
+use mathlib.Core.Path.{sym, _∙_}
 use mathlib.Core.List.{[]}
 use native.Mathlib.Omega.{arith}
 use borrow.Author.Needs.{needs}
-use Rattle.layout.specs.declared.head.HeadAnswer.the-variants.{Read}
-use Rattle.layout.specs.HeadLaws.{head-read, head-passes, passes-read}
+use Rattle.layout.specs.HeadLaws.{head-read, head-passes}
 use Rattle.decisions.specs.VerdictLaws.{head-refused, head-passed}
 use Rattle.decisions.proofs.first_refusal.Statement.{statement}
 use Rattle.decisions.proofs.first_refusal.Tie as tie
@@ -19,8 +18,7 @@ head-of-requires c κs = head-passes _ (sym (c .before .head-refusal .ensures) �
 
 time-refusal-requires : tie.Need-time-refusal-requires
 time-refusal-requires c κs =
-    let p = head-passes _ (sym (c .before .before .head-refusal .ensures) ∙ c .before .if1 .left) in
-    head-read _ (passes-read _ (p .0) (p .1) ∙ ap Read (sym (c .head-of .ensures))) (omega arith) .sound
+    head-read _ (c .head-of .ensures) (sym (c .before .before .head-refusal .ensures) ∙ c .before .if1 .left) (omega arith) .sound
 
 returns-2 : tie.Need-returns-2
 returns-2 c =

@@ -1,14 +1,16 @@
-//! An independent implementation of document 01, with the since word of document 02, in safe Rust. It shares no code
-//! with the Rattle crates; what it shares with [`crate::Proved`] is the store's layout, word for word. What is document
-//! 01's was written without a look at those crates; since was added together with theirs.
+//! An independent implementation of document 01, with the since word and the window of document 02, in safe Rust. It
+//! shares no code with the Rattle crates; what it shares with [`crate::Proved`] is the store's layout, word for word.
+//! What is document 01's, and the window, was written without a look at their code; since was added together with
+//! theirs.
 //!
 //! `head` reads and tests the first 16 words, `parts` cuts the lent store, `sound` holds the tests of a change before
-//! its first write, `change` the writes, `look` the look-back.
+//! its first write, `change` the writes, `look` the look-back, `window` the window.
 mod change;
 mod head;
 mod look;
 mod parts;
 mod sound;
+mod window;
 
 use crate::{Answer, Calls, Refusal, Settings};
 use change::Change;
@@ -69,5 +71,9 @@ impl Calls for Independent {
 
     fn look_back(store: &[u32], second: u32, rows: &mut [u32], list: &mut [u32]) -> Result<Answer, Refusal> {
         look::look_back(store, second, rows, list)
+    }
+
+    fn window(store: &[u32], first: u32, last: u32, rows: &mut [u32]) -> Result<u32, Refusal> {
+        window::window(store, first, last, rows)
     }
 }

@@ -1,10 +1,11 @@
-//! The contenders of the benchmark, behind one face. Each takes the same changes and answers the same look-backs.
+//! The contenders of the benchmark, behind one face. Each takes the same changes and answers the same look-backs, and
+//! those that can, the same windows.
 pub mod copies;
 pub mod log;
 pub mod sqlite;
 pub mod store;
 
-use crate::input::Change;
+use crate::input::{Change, Span};
 
 /// A condition that stood, and the second of its last set or new reading.
 #[derive(Clone, Copy, PartialEq, Eq, PartialOrd, Ord)]
@@ -45,6 +46,16 @@ pub trait Contender {
     fn words_read(&self) -> Option<usize>;
     /// Blocks listed by the last look-back, and blocks open then.
     fn blocks(&self, _second: u32) -> Option<(usize, usize)> {
+        None
+    }
+}
+
+/// A contender that answers windows.
+pub trait Crosser: Contender {
+    /// Asks for each window and counts the rows. Those of the last, by tag, are in [`Contender::rows`].
+    fn cross_all(&mut self, windows: &[Span]) -> u64;
+    /// Blocks that a window reads, and blocks opened.
+    fn blocks_read(&self, _window: Span) -> Option<(usize, usize)> {
         None
     }
 }

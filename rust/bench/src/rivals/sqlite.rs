@@ -1,7 +1,7 @@
 //! SQLite: a table of intervals in memory, prepared statements, one transaction. The library is loaded when the program
 //! runs, so that it builds on a machine without it; then this contender is left out.
-use super::{Contender, Row};
-use crate::input::{Change, Kind, TAGS};
+use super::{Contender, Crosser, Row};
+use crate::input::{Change, Kind, Span, TAGS};
 use std::ffi::{CStr, c_char, c_int, c_void};
 use std::ptr::{null, null_mut};
 
@@ -15,6 +15,10 @@ const INSERT: &CStr = c"INSERT INTO condition (id, tag, reading, began, ended) V
 const END: &CStr = c"UPDATE condition SET ended = ?2 WHERE id = ?1";
 /// An interval begins with a set or new reading: its beginning is the since of a row.
 const LOOK: &CStr = c"SELECT tag, reading, began FROM condition WHERE ended > ?1 AND began <= ?1";
+/// Of each tag's intervals that stood in a window the one that began last: SQLite takes the other columns of a row from
+/// that which has the maximum.
+const CROSS: &CStr = c"SELECT tag, reading, max(began) FROM condition
+WHERE ended > ?1 AND began <= ?2 AND began < ended GROUP BY tag ORDER BY tag";
 const PAGES: &CStr = c"SELECT page_count * page_size FROM pragma_page_count, pragma_page_size";
 
 type Handle = *mut c_void;
@@ -76,6 +80,7 @@ pub struct Sqlite {
     insert: Handle,
     end: Handle,
     look: Handle,
+    cross: Handle,
     next_id: i64,
     /// The interval of each standing tag, kept by the program: an end needs no search.
     standing: Vec<i64>,
@@ -93,6 +98,7 @@ impl Sqlite {
             insert: none,
             end: none,
             look: none,
+            cross: none,
             next_id: 0,
             standing: Vec::new(),
             rows: Vec::new(),
@@ -112,6 +118,7 @@ impl Sqlite {
         self.insert = self.prepare(INSERT);
         self.end = self.prepare(END);
         self.look = self.prepare(LOOK);
+        self.cross = self.prepare(CROSS);
         self.next_id = 0;
         self.standing = vec![0; TAGS as usize];
     }
@@ -119,7 +126,7 @@ impl Sqlite {
     fn close(&mut self) {
         // SAFETY: as above; no handle is used again.
         unsafe {
-            for statement in [self.insert, self.end, self.look] {
+            for statement in [self.insert, self.end, self.look, self.cross] {
                 (self.library.finalize)(statement);
             }
             (self.library.close)(self.database);
@@ -154,17 +161,31 @@ impl Sqlite {
         self.run(self.insert, &values);
     }
 
-    fn look_back(&mut self, second: u32) {
+    /// Takes the rows that a statement gives.
+    fn take(&mut self, statement: Handle, values: &[i64]) {
         self.rows.clear();
         // SAFETY: as above.
         unsafe {
-            (self.library.bind)(self.look, 1, second.into());
-            while (self.library.step)(self.look) == ROW {
-                let [tag, reading, since] = [0, 1, 2].map(|column| (self.library.column)(self.look, column));
+            for (i, &value) in (1..).zip(values) {
+                (self.library.bind)(statement, i, value);
+            }
+            while (self.library.step)(statement) == ROW {
+                let [tag, reading, since] = [0, 1, 2].map(|column| (self.library.column)(statement, column));
                 self.rows.push(Row { tag: tag as u32, reading: reading as i32, since: since as u32 });
             }
-            (self.library.reset)(self.look);
+            (self.library.reset)(statement);
         }
+    }
+}
+
+impl Crosser for Sqlite {
+    fn cross_all(&mut self, windows: &[Span]) -> u64 {
+        let mut rows = 0;
+        for window in windows {
+            self.take(self.cross, &[window.first.into(), window.last.into()]);
+            rows += self.rows.len() as u64;
+        }
+        rows
     }
 }
 
@@ -198,7 +219,7 @@ impl Contender for Sqlite {
     fn look_all(&mut self, seconds: &[u32]) -> u64 {
         let mut rows = 0;
         for &second in seconds {
-            self.look_back(second);
+            self.take(self.look, &[second.into()]);
             rows += self.rows.len() as u64;
         }
         rows

@@ -1,6 +1,6 @@
 //! The register, by either implementation.
-use super::{Contender, Row};
-use crate::input::{self, Change};
+use super::{Contender, Crosser, Row};
+use crate::input::{self, Change, Span};
 use bench::{Answer, Calls, ROW, Settings};
 use std::marker::PhantomData;
 
@@ -36,6 +36,37 @@ impl<R: Calls> Store<R> {
     fn first_block(&self) -> usize {
         16 + 4096 + 256 + 16 + self.settings.tags as usize
     }
+
+    /// How many of the blocks opened have such seconds of opening and closing.
+    fn blocks_with(&self, which: impl Fn(u32, u32) -> bool) -> usize {
+        let blocks = self.words[self.first_block()..].chunks(self.settings.block_words()).take(self.opened());
+        blocks.filter(|block| which(block[0], block[1])).count()
+    }
+
+    /// Takes the first rows of the row buffer.
+    fn take(&mut self, rows: usize) {
+        let given = self.row_words.as_chunks::<ROW>().0.iter().take(rows);
+        self.rows.clear();
+        self.rows.extend(given.map(|&[tag, reading, since]| Row { tag, reading: reading as i32, since }));
+    }
+}
+
+impl<R: Calls> Crosser for Store<R> {
+    fn cross_all(&mut self, windows: &[Span]) -> u64 {
+        let (mut rows, mut last) = (0, 0);
+        for window in windows {
+            let told = R::window(&self.words, window.first, window.last, &mut self.row_words);
+            last = told.expect("the window is in the history");
+            rows += u64::from(last);
+        }
+        self.take(last as usize);
+        rows
+    }
+
+    fn blocks_read(&self, window: Span) -> Option<(usize, usize)> {
+        let read = self.blocks_with(|opened, closed| opened <= window.last && window.first < closed);
+        Some((read, self.opened()))
+    }
 }
 
 impl<R: Calls> Contender for Store<R> {
@@ -61,10 +92,7 @@ impl<R: Calls> Contender for Store<R> {
             rows += u64::from(answer.rows);
             self.answer = Some(answer);
         }
-        let last = self.answer.map_or(0, |answer| answer.rows as usize);
-        self.rows.clear();
-        let rows_given = self.row_words.as_chunks::<ROW>().0.iter().take(last);
-        self.rows.extend(rows_given.map(|&[tag, reading, since]| Row { tag, reading: reading as i32, since }));
+        self.take(self.answer.map_or(0, |answer| answer.rows as usize));
         rows
     }
 
@@ -83,8 +111,7 @@ impl<R: Calls> Contender for Store<R> {
     }
 
     fn blocks(&self, second: u32) -> Option<(usize, usize)> {
-        let blocks = self.words[self.first_block()..].chunks(self.settings.block_words()).take(self.opened());
-        let open = blocks.filter(|block| block[0] <= second && second < block[1]).count();
+        let open = self.blocks_with(|opened, closed| opened <= second && second < closed);
         self.answer.map(|answer| (answer.blocks as usize, open))
     }
 }

@@ -32,7 +32,7 @@ impl Book {
                 self.clear(second, tag);
                 self.write(second, tag);
             }
-            Call::Advance { .. } | Call::LookBack { .. } => {}
+            Call::Advance { .. } | Call::LookBack { .. } | Call::Window { .. } => {}
         }
     }
 

@@ -7,8 +7,9 @@ use bench::{OPEN, Settings};
 pub struct Temper {
     /// Of 100 changes, how many are at the clock's own second.
     pub same_second: u32,
-    /// Of 100 calls, how many are look-backs.
+    /// Of 100 calls, how many are look-backs, and how many windows.
     pub look_backs: u32,
+    pub windows: u32,
     /// Of 100 changes, how many are clears and how many new readings; the rest are sets.
     pub clears: u32,
     pub updates: u32,
@@ -17,10 +18,10 @@ pub struct Temper {
 }
 
 pub const TEMPERS: [Temper; 4] = [
-    Temper { same_second: 20, look_backs: 20, clears: 40, updates: 15, odd: 20 },
-    Temper { same_second: 85, look_backs: 10, clears: 45, updates: 10, odd: 10 },
-    Temper { same_second: 50, look_backs: 15, clears: 10, updates: 70, odd: 10 },
-    Temper { same_second: 5, look_backs: 30, clears: 48, updates: 2, odd: 100 },
+    Temper { same_second: 20, look_backs: 20, windows: 10, clears: 40, updates: 15, odd: 20 },
+    Temper { same_second: 85, look_backs: 10, windows: 10, clears: 45, updates: 10, odd: 10 },
+    Temper { same_second: 50, look_backs: 15, windows: 10, clears: 10, updates: 70, odd: 10 },
+    Temper { same_second: 5, look_backs: 30, windows: 15, clears: 48, updates: 2, odd: 100 },
 ];
 
 /// What stands, as the caller knows it, and the clock.
@@ -40,7 +41,9 @@ impl History {
         let kind = rng.below(100);
         let call = if kind < temper.look_backs {
             self.draw_look_back(rng)
-        } else if kind < temper.look_backs + 2 {
+        } else if kind < temper.look_backs + temper.windows {
+            self.draw_window(rng)
+        } else if kind < temper.look_backs + temper.windows + 2 {
             Call::Advance { second: self.draw_second(temper, rng) }
         } else {
             self.draw_change(temper, rng)
@@ -66,7 +69,7 @@ impl History {
                 }
             }
             Call::Update { second, .. } | Call::Advance { second } => self.clock = second,
-            Call::LookBack { .. } => {}
+            Call::LookBack { .. } | Call::Window { .. } => {}
         }
     }
 
@@ -107,13 +110,32 @@ impl History {
         tag
     }
 
-    fn draw_look_back(&self, rng: &mut Rng) -> Call {
-        let second = match rng.below(4) {
+    /// A second up to the clock, often a late one.
+    fn draw_past(&self, rng: &mut Rng) -> u32 {
+        match rng.below(4) {
             0 => self.clock,
             1 => self.clock.saturating_sub(rng.below(8)),
             _ => rng.below(self.clock + 1),
+        }
+    }
+
+    fn draw_look_back(&self, rng: &mut Rng) -> Call {
+        self.look_back_at(self.draw_past(rng))
+    }
+
+    /// One second, a few, or any up to some past one.
+    fn draw_window(&self, rng: &mut Rng) -> Call {
+        let last = self.draw_past(rng);
+        let first = match rng.below(4) {
+            0 => last,
+            1 => last.saturating_sub(rng.below(8)),
+            _ => rng.below(last + 1),
         };
-        self.look_back_at(second)
+        self.window_from(first, last)
+    }
+
+    pub fn window_from(&self, first: u32, last: u32) -> Call {
+        Call::Window { first, last, rows: self.settings.row_words() }
     }
 
     pub fn look_back_at(&self, second: u32) -> Call {
@@ -138,6 +160,13 @@ impl History {
                 second,
                 rows: rows + 3 - rng.below(5) as usize,
                 list: list + 2 - rng.below(3) as usize,
+            },
+            Call::Window { first, last, rows } => match rng.below(5) {
+                0 => Call::Window { first: odd_second, last, rows },
+                1 => Call::Window { first, last: odd_second, rows },
+                2 => Call::Window { first: last, last: first, rows },
+                3 => Call::Window { first: odd_second, last: odd_second, rows: rows - 1 },
+                _ => Call::Window { first, last, rows: rows + 3 - rng.below(5) as usize },
             },
             Call::Start(_) => call,
         }

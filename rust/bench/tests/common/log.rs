@@ -1,4 +1,5 @@
-//! The plain log of accepted changes (demand 2): what stood at t is found by replay, and by nothing else.
+//! The plain log of accepted changes (demand 2): what stood at t, or at some second of a window, is found by replay, and
+//! by nothing else.
 use super::Call;
 use std::collections::BTreeMap;
 
@@ -27,7 +28,7 @@ impl Log {
                 self.written += 1;
             }
             Call::Clear { second, tag } => self.changes.push((second, tag, None)),
-            Call::Advance { .. } | Call::LookBack { .. } => {}
+            Call::Advance { .. } | Call::LookBack { .. } | Call::Window { .. } => {}
         }
     }
 
@@ -42,5 +43,17 @@ impl Log {
             debug_assert!(second <= t);
         }
         state
+    }
+
+    /// Each tag that stands at some second from first to last, as it stands at the last of these. What stands changes
+    /// only at the seconds of changes, so these and the first are enough.
+    pub fn window(&self, first: u32, last: u32) -> BTreeMap<u32, Standing> {
+        let changed = self.changes.iter().map(|change| change.0).filter(|second| (first..=last).contains(second));
+        let mut seconds: Vec<u32> = [first].into_iter().chain(changed).collect();
+        seconds.dedup();
+        seconds.into_iter().fold(BTreeMap::new(), |mut stood, second| {
+            stood.extend(self.state(second));
+            stood
+        })
     }
 }

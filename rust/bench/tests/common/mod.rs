@@ -6,6 +6,8 @@ pub mod history;
 pub mod log;
 pub mod pair;
 pub mod rng;
+pub mod witness;
+pub mod written;
 
 pub use pair::{Call, Outcome, Pair, Totals};
 pub use rng::Rng;

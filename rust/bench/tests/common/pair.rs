@@ -1,5 +1,5 @@
 //! Two equal stores: each call runs on one by the proved register and on the other by the independent one; then result,
-//! whole store, both whole buffers and the six answer words are compared.
+//! whole store, whole buffers and the answer's words (six of a look-back, one of a window) are compared.
 use super::Rng;
 use bench::{Calls, Independent, Proved, Refusal, Settings};
 use std::fmt;
@@ -12,6 +12,14 @@ pub enum Call {
     Update { second: u32, tag: u32, reading: i32 },
     Advance { second: u32 },
     LookBack { second: u32, rows: usize, list: usize },
+    Window { first: u32, last: u32, rows: usize },
+}
+
+impl Call {
+    /// A look-back or window, which leaves the store as it is.
+    pub fn is_query(self) -> bool {
+        matches!(self, Call::LookBack { .. } | Call::Window { .. })
+    }
 }
 
 pub type Outcome = Result<(), Refusal>;
@@ -20,7 +28,7 @@ pub type Outcome = Result<(), Refusal>;
 #[derive(Clone, Default)]
 pub struct Totals {
     pub calls: u64,
-    pub by_number: [u64; 14],
+    pub by_number: [u64; 15],
 }
 
 impl Totals {
@@ -40,7 +48,7 @@ impl fmt::Display for Totals {
     }
 }
 
-/// The buffers of a look-back: rows, list, answer words.
+/// The buffers of a look-back, rows and list, and its answer words; those of a window are the rows and the first word.
 #[derive(Clone, Default, PartialEq)]
 pub struct Buffers {
     pub rows: Vec<u32>,
@@ -52,7 +60,7 @@ pub struct Buffers {
 pub struct Pair {
     proved: Vec<u32>,
     independent: Vec<u32>,
-    /// What the last look-back left, by either.
+    /// What the last look-back or window left, by either.
     pub told: Buffers,
     told_again: Buffers,
     noise: Vec<u32>,
@@ -88,6 +96,7 @@ impl Pair {
     pub fn call(&mut self, call: Call, rng: &mut Rng) -> Outcome {
         let (a, b) = match call {
             Call::LookBack { second, rows, list } => self.look_back(second, rows, list, rng),
+            Call::Window { first, last, rows } => self.window(first, last, rows, rng),
             _ => (change::<Proved>(&mut self.proved, call), change::<Independent>(&mut self.independent, call)),
         };
         assert!(a == b, "{call:?}: the proved register says {a:?}, the independent one {b:?}");
@@ -96,7 +105,8 @@ impl Pair {
         a
     }
 
-    fn look_back(&mut self, second: u32, rows: usize, list: usize, rng: &mut Rng) -> (Outcome, Outcome) {
+    /// Fills the buffers of both with the same words.
+    fn lend(&mut self, rows: usize, list: usize, rng: &mut Rng) {
         self.make_noise(rows.max(list), rng);
         for told in [&mut self.told, &mut self.told_again] {
             told.rows.clear();
@@ -105,10 +115,24 @@ impl Pair {
             told.list.extend_from_slice(&self.noise[..list]);
             told.answer = [77; 6];
         }
+    }
+
+    fn look_back(&mut self, second: u32, rows: usize, list: usize, rng: &mut Rng) -> (Outcome, Outcome) {
+        self.lend(rows, list, rng);
         let Buffers { rows, list, answer } = &mut self.told;
         let a = Proved::look_back_words(&self.proved, second, rows, list, answer);
         let Buffers { rows, list, answer } = &mut self.told_again;
         let b = Independent::look_back(&self.independent, second, rows, list).map(|told| *answer = told.words());
+        (a, b)
+    }
+
+    fn window(&mut self, first: u32, last: u32, rows: usize, rng: &mut Rng) -> (Outcome, Outcome) {
+        self.lend(rows, 0, rng);
+        let Buffers { rows, answer, .. } = &mut self.told;
+        let one = answer.first_chunk_mut().expect("a word of six");
+        let a = Proved::window_words(&self.proved, first, last, rows, one);
+        let Buffers { rows, answer, .. } = &mut self.told_again;
+        let b = Independent::window(&self.independent, first, last, rows).map(|told| answer[0] = told);
         (a, b)
     }
 
@@ -124,7 +148,7 @@ impl Pair {
 
     fn compare_words(&self, call: Call) {
         same(call, "store", &self.proved, &self.independent);
-        if matches!(call, Call::LookBack { .. }) {
+        if call.is_query() {
             same(call, "rows", &self.told.rows, &self.told_again.rows);
             same(call, "list", &self.told.list, &self.told_again.list);
             same(call, "answer", &self.told.answer, &self.told_again.answer);
@@ -140,7 +164,7 @@ fn same(call: Call, what: &str, proved: &[u32], independent: &[u32]) {
     }
 }
 
-/// Any call but a look-back.
+/// Any call but a look-back or window.
 pub fn change<R: Calls>(store: &mut [u32], call: Call) -> Outcome {
     match call {
         Call::Start(settings) => R::start(store, settings),
@@ -148,6 +172,6 @@ pub fn change<R: Calls>(store: &mut [u32], call: Call) -> Outcome {
         Call::Clear { second, tag } => R::clear(store, second, tag),
         Call::Update { second, tag, reading } => R::update(store, second, tag, reading),
         Call::Advance { second } => R::advance(store, second),
-        Call::LookBack { .. } => unreachable!("a look-back changes no store"),
+        Call::LookBack { .. } | Call::Window { .. } => unreachable!("{call:?} changes no store"),
     }
 }

@@ -9,7 +9,7 @@ rounds-spec =
     tie.close
     (tie.spec
     (λ _ _ _ _ _. Unit {0})
-    (λ _ _ _ _ i. 33 - i)
+    (λ _ _ _ _ i. 39 - i)
     (search needs)
     (search needs)
     (search needs)

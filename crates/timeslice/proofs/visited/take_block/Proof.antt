@@ -1,5 +1,5 @@
 -- `visited::take_block` meets its contract: the block that it is handed is the reader's.
-use Rattle.timeslice.specs.ToldLaws.{part-is}
+use Rattle.queries.specs.BlockLaws.{part-is}
 use Rattle.timeslice.specs.VisitedLaws.{block-ended, block-taken}
 use borrow.Author.Needs.{needs}
 use Rattle.timeslice.proofs.visited.take_block.Statement.{statement}

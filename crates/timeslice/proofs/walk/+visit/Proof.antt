@@ -8,7 +8,7 @@ use borrow.Author.Needs.{needs}
 use borrow.Fn.Kinds.{In}
 use borrow.Fn.PlainCycle.{Measures, is, falls, and}
 use Rattle.calls.specs.LookBack.{reader}
-use Rattle.timeslice.specs.ToldLaws.{part-is}
+use Rattle.queries.specs.BlockLaws.{part-is}
 use Rattle.timeslice.specs.ListedLaws.{by-end, by-break, by-inside, inside-room}
 use Rattle.timeslice.specs.InsideLaws.{ChildVisited, child-visited, LeftPart, inside-numbered, child-room, inside-stops, left-part}
 use Rattle.layout.proofs.parts.block.Reads as block-reads

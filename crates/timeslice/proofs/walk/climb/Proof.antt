@@ -1,5 +1,5 @@
 -- `walk::climb` meets its contract: an up that is not below is refused before the block is listed.
-use Rattle.timeslice.specs.ToldLaws.{block-is}
+use Rattle.queries.specs.BlockLaws.{block-is}
 use Rattle.timeslice.specs.PathLaws.{lies-under, climb-above, climb-full, climb-on}
 use borrow.Author.Needs.{needs}
 use Rattle.timeslice.proofs.walk.climb.Statement.{statement}

@@ -1,5 +1,5 @@
 -- `walk::enter` meets its contract: each way out is a law of visits.
-use Rattle.timeslice.specs.ToldLaws.{part-is}
+use Rattle.queries.specs.BlockLaws.{part-is}
 use Rattle.timeslice.specs.ListedLaws.{enter-none, enter-low, enter-high, enter-ended, enter-within}
 use borrow.Author.Needs.{needs}
 use Rattle.timeslice.proofs.walk.enter.Statement.{statement}

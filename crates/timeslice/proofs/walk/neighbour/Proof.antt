@@ -1,5 +1,5 @@
 -- `walk::neighbour` meets its contract: the left of a closed block, else the last child of its up, which is the head's for block 0.
-use Rattle.timeslice.specs.ToldLaws.{block-is}
+use Rattle.queries.specs.BlockLaws.{block-is}
 use Rattle.timeslice.specs.PathLaws.{own-left, root-child, up-child, root-is, up-numbered}
 use borrow.Author.Needs.{needs}
 use Rattle.timeslice.proofs.walk.neighbour.Statement.{statement}

@@ -2,7 +2,7 @@
 use native.Mathlib.Omega.{arith}
 use borrow.Author.Needs.{needs}
 use Rattle.calls.specs.LookBack.{reader}
-use Rattle.timeslice.specs.ToldLaws.{blocks-of}
+use Rattle.queries.specs.BlockLaws.{blocks-of}
 use Rattle.timeslice.specs.PathLaws.{OnPath, begun, path-ends, path-numbered, path-space, path-stops, up-below, visit-room, path-visit-stops, path-turn}
 use Rattle.timeslice.proofs.walk.path.Statement.{statement}
 use Rattle.timeslice.proofs.walk.path.Tie as tie

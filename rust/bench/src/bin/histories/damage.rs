@@ -8,18 +8,27 @@ use crate::tally::Tally;
 use bench::{OPEN, Settings};
 
 const ROUNDS: u32 = 3;
-/// The calls of a round; `None` is a look-back.
-const CALLS: [Option<Kind>; 10] = [
-    None,
-    Some(Kind::Set),
-    None,
-    Some(Kind::Clear),
-    Some(Kind::Update),
-    None,
-    Some(Kind::Clear),
-    Some(Kind::Advance),
-    Some(Kind::Set),
-    None,
+
+/// A call of a round, but the start at its end.
+enum Made {
+    LookBack,
+    Window,
+    Change(Kind),
+}
+
+const CALLS: [Made; 12] = [
+    Made::LookBack,
+    Made::Window,
+    Made::Change(Kind::Set),
+    Made::LookBack,
+    Made::Change(Kind::Clear),
+    Made::Change(Kind::Update),
+    Made::LookBack,
+    Made::Change(Kind::Clear),
+    Made::Change(Kind::Advance),
+    Made::Change(Kind::Set),
+    Made::Window,
+    Made::LookBack,
 ];
 
 /// Each round damages the store as the history left it, makes calls on it, and starts it anew.
@@ -28,10 +37,11 @@ pub fn rounds(account: &Account, lent: &mut Lent, tally: &mut Tally, random: &mu
     for _ in 0..ROUNDS {
         lent.store.copy_from_slice(&honest);
         overwrite(account.settings, &mut lent.store, random);
-        for kind in CALLS {
-            match kind {
-                Some(kind) => tally.damaged(&lent.change(kind, &change(account, &lent.store, random))),
-                None => look_back(account, lent, tally, random),
+        for call in &CALLS {
+            match *call {
+                Made::Change(kind) => tally.damaged(&lent.change(kind, &change(account, &lent.store, random))),
+                Made::LookBack => look_back(account, lent, tally, random),
+                Made::Window => window(account, lent, tally, random),
             }
         }
         tally.damaged(&lent.start(account.length, account.settings));
@@ -104,9 +114,19 @@ fn change(account: &Account, store: &[u32], random: &mut Random) -> Change {
     Change { length: account.length, second, tag, reading: random.word() }
 }
 
-/// A look-back, often at a second of the history.
+/// A second to ask about: often one of the history.
+fn past(account: &Account, lent: &Lent, random: &mut Random) -> u32 {
+    if random.once_in(3) { second(&lent.store, random) } else { draw::past(account, random) }
+}
+
+fn window(account: &Account, lent: &mut Lent, tally: &mut Tally, random: &mut Random) {
+    let last = past(account, lent, random);
+    let window = draw::window_to(account.length, last, account, random);
+    tally.windowed_damaged(&lent.window(&window));
+}
+
 fn look_back(account: &Account, lent: &mut Lent, tally: &mut Tally, random: &mut Random) {
-    let second = if random.once_in(3) { second(&lent.store, random) } else { draw::past(account, random) };
+    let second = past(account, lent, random);
     let buffers = draw::buffers(account, random);
     tally.damaged(&lent.look_back(account.length, second, buffers));
 }

@@ -99,3 +99,30 @@ pub fn change(kind: Kind, account: &Account, random: &mut Random) -> Change {
     let tag = tag(kind, account, random);
     Change { length, second, tag, reading: random.word() }
 }
+
+/// A window as it is drawn, with how many words are lent: of the store, and for rows.
+pub struct Window {
+    pub length: u32,
+    pub first: u32,
+    pub last: u32,
+    pub row_words: u32,
+}
+
+/// The first second of a window with this last one: the same, one shortly or long before it, the history's beginning;
+/// sometimes one after it, sometimes any.
+fn first_of(last: u32, account: &Account, random: &mut Random) -> u32 {
+    match random.below(16) {
+        0..3 => last,
+        3..8 => last.saturating_sub(random.below(8)),
+        8..12 => last.saturating_sub(random.below(90)),
+        12..14 => 0,
+        14 => last.wrapping_add(random.below(3) + 1),
+        _ => past(account, random),
+    }
+}
+
+/// A window that ends at a second, with a buffer for D rows.
+pub fn window_to(length: u32, last: u32, account: &Account, random: &mut Random) -> Window {
+    let first = first_of(last, account, random);
+    Window { length, first, last, row_words: buffer(3 * account.settings.tags, random) }
+}

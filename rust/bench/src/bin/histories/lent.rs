@@ -1,6 +1,6 @@
 //! The arrays that calls are lent parts of, and the calls, made on the independent implementation and on no other.
 use crate::account::Kind;
-use crate::draw::Change;
+use crate::draw::{Change, Window};
 use bench::{Answer, Calls, Independent, Refusal, Settings};
 
 /// More words than any layout here needs.
@@ -38,5 +38,10 @@ impl Lent {
     pub fn look_back(&mut self, length: u32, second: u32, buffers: (u32, u32)) -> Result<Answer, Refusal> {
         let (rows, list) = (&mut self.rows[..buffers.0 as usize], &mut self.list[..buffers.1 as usize]);
         Independent::look_back(&self.store[..length as usize], second, rows, list)
+    }
+
+    pub fn window(&mut self, w: &Window) -> Result<u32, Refusal> {
+        let rows = &mut self.rows[..w.row_words as usize];
+        Independent::window(&self.store[..w.length as usize], w.first, w.last, rows)
     }
 }

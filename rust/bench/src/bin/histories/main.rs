@@ -2,7 +2,7 @@
 //!
 //! The calls are test data, so they are drawn here as there: `random`, `draw`, `settings` and `damage` are ports of the
 //! files of crates/model/src and crates/histories/src, number for number. Every answer and every word is the independent implementation's
-//! (rust/bench/src/independent, written from document 01): the proved register is not called, and with
+//! (rust/bench/src/independent, written from the papers): the proved register is not called, and with
 //! `--no-default-features`, as tools/expected-histories builds this, it is not linked. What is drawn depends on the
 //! answers before it (the clock, the tags that stand, the words left), so the two programs stay together only while
 //! their registers do.
@@ -83,7 +83,8 @@ impl History<'_> {
                 70..110 => self.change(Kind::Clear),
                 110..145 => self.change(Kind::Update),
                 145..155 => self.change(Kind::Advance),
-                155..199 => self.look_back(),
+                155..185 => self.look_back(),
+                185..199 => self.window(),
                 _ => self.restart(),
             }
         }
@@ -103,6 +104,13 @@ impl History<'_> {
         let second = draw::past(&self.account, &mut self.random);
         let buffers = draw::buffers(&self.account, &mut self.random);
         self.tally.looked(&self.lent.look_back(length, second, buffers));
+    }
+
+    fn window(&mut self) {
+        let length = draw::length(&self.account, &mut self.random);
+        let last = draw::past(&self.account, &mut self.random);
+        let window = draw::window_to(length, last, &self.account, &mut self.random);
+        self.tally.windowed(&self.lent.window(&window));
     }
 
     fn restart(&mut self) {

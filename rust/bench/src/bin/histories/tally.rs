@@ -4,7 +4,7 @@ use crate::settings::block_word;
 use bench::{Answer, OPEN, Refusal};
 
 /// How often each answer came: 0 is accepted, else the refusal's number.
-type Answers = [u32; 14];
+type Answers = [u32; 15];
 
 #[derive(Default)]
 pub struct Tally {
@@ -14,6 +14,9 @@ pub struct Tally {
     look_backs: u32,
     rows: u32,
     listed: u32,
+    windows: Answers,
+    window_rows: u32,
+    damaged_windows: Answers,
     opened: u32,
     closed: u32,
     most: u32,
@@ -21,6 +24,11 @@ pub struct Tally {
 
 fn number<T>(told: &Result<T, Refusal>) -> usize {
     told.as_ref().map_or_else(|refusal| refusal.number() as usize, |_| 0)
+}
+
+/// The counts on one line, a blank before each.
+fn spaced(counts: &[u32]) -> String {
+    counts.iter().map(|count| format!(" {count}")).collect()
 }
 
 impl Tally {
@@ -37,6 +45,19 @@ impl Tally {
             self.rows += answer.rows;
             self.listed += answer.blocks;
         }
+    }
+
+    /// A window of a history.
+    pub fn windowed(&mut self, told: &Result<u32, Refusal>) {
+        self.answers[number(told)] += 1;
+        self.windows[number(told)] += 1;
+        self.window_rows += told.unwrap_or(0);
+    }
+
+    /// A window on a damaged store.
+    pub fn windowed_damaged(&mut self, told: &Result<u32, Refusal>) {
+        self.damaged(told);
+        self.damaged_windows[number(told)] += 1;
     }
 
     /// A call on a damaged store.
@@ -56,13 +77,20 @@ impl Tally {
     pub fn print(&self) {
         println!("histories {}", self.histories);
         println!("calls {}", self.answers.iter().sum::<u32>());
-        println!("accepted starts, changes and clock moves {}", self.answers[0] - self.look_backs);
+        println!("accepted starts, changes and clock moves {}", self.answers[0] - self.look_backs - self.windows[0]);
         println!("look-backs answered {}", self.look_backs);
         println!("rows compared {}", self.rows);
         println!("blocks listed {}", self.listed);
         println!("blocks opened {}", self.opened);
         println!("blocks closed {}", self.closed);
         println!("most blocks in a history {}", self.most);
+        println!("windows asked {}", self.windows.iter().sum::<u32>());
+        println!("windows answered {}", self.windows[0]);
+        println!("windows, refusals 1 to 14:{}", spaced(&self.windows[1..]));
+        println!("window rows compared {}", self.window_rows);
+        println!("windows asked on damaged stores {}", self.damaged_windows.iter().sum::<u32>());
+        println!("damaged, windows answered {}", self.damaged_windows[0]);
+        println!("damaged, windows, refusals 1 to 14:{}", spaced(&self.damaged_windows[1..]));
         for (number, count) in self.answers.iter().enumerate().skip(1) {
             println!("refusal {number}: {count}");
         }

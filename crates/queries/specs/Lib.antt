@@ -1,0 +1,5 @@
+pub mod Readable
+pub mod Own
+pub mod OpenLaws
+pub mod BlockLaws
+pub mod RowLaws

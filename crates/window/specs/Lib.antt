@@ -1,0 +1,9 @@
+pub mod Windowed
+pub mod Noted
+pub mod LatestLaws
+pub mod NotedLaws
+pub mod SlotLaws
+pub mod BlockLaws
+pub mod RowedLaws
+pub mod TurnedAwayLaws
+pub mod WindowedLaws
