@@ -4,18 +4,11 @@ use model::asked::*;
 use model::memory::*;
 use model::settings::Settings;
 use model::words::MARK;
+use model::words::shorter;
 use model::words::sum;
-ghost use Prim.Native.Nat.{_≤_};
-
-fn least(x: usize, y: usize) -> usize
-    ensures { λ r. ⌜ r ≤ x ⌝ }
-    ensures { λ r. ⌜ r ≤ y ⌝ }
-{
-    if x <= y { x } else { y }
-}
 
 fn start_on(store: &mut [u32], length: u32, s: Settings) -> u32 {
-    let end = least(length as usize, store.len());
+    let end = shorter(length as usize, store.len());
     register::register_start(&mut store[0..end], s.block, s.useful, s.blocks, s.tags)
 }
 
@@ -38,7 +31,7 @@ fn change_lent(lent: &mut [u32], c: Change) -> u32 {
 }
 
 fn change_on(store: &mut [u32], c: Change) -> u32 {
-    let end = least(c.length as usize, store.len());
+    let end = shorter(c.length as usize, store.len());
     change_lent(&mut store[0..end], c)
 }
 
@@ -53,9 +46,9 @@ fn look_back_on(
     list: &mut [u32],
     answer: &mut [u32; 6],
 ) -> u32 {
-    let store_end = least(a.length as usize, store.len());
-    let row_end = least(a.row_words as usize, rows.len());
-    let list_end = least(a.list_words as usize, list.len());
+    let store_end = shorter(a.length as usize, store.len());
+    let row_end = shorter(a.row_words as usize, rows.len());
+    let list_end = shorter(a.list_words as usize, list.len());
     register::register_look_back(
         &store[0..store_end],
         a.second,
@@ -78,8 +71,8 @@ fn marked() -> Buffer {
 
 // What a call left of a buffer goes into a part.
 fn note(memory: &mut Memory, part: u32, buffer: &[u32]) {
-    let from = least(part as usize, 65536);
-    let n = least(640, buffer.len());
+    let from = shorter(part as usize, 65536);
+    let n = shorter(640, buffer.len());
     for i in 0..n {
         memory[from + i] = buffer[i];
     }
@@ -109,8 +102,8 @@ pub fn look_back(memory: &mut Memory, a: LookBack) -> u32 {
 }
 
 fn window_on(store: &[u32], a: Window, rows: &mut [u32], answer: &mut [u32; 1]) -> u32 {
-    let store_end = least(a.length as usize, store.len());
-    let row_end = least(a.row_words as usize, rows.len());
+    let store_end = shorter(a.length as usize, store.len());
+    let row_end = shorter(a.row_words as usize, rows.len());
     register::register_window(
         &store[0..store_end],
         a.first,

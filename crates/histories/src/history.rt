@@ -11,7 +11,6 @@ use model::log;
 use model::looked;
 use model::memory::*;
 use model::random::*;
-use model::settings;
 use model::settings::Settings;
 use model::words::*;
 
@@ -144,21 +143,9 @@ fn turns(memory: &mut Memory, calls: u32) {
     }
 }
 
-// A store of marks, lent as long as the layout or somewhat longer; nothing is started yet.
-fn prepare(memory: &mut Memory, s: Settings) {
-    book::begin(memory, s, 0);
-    let more = less(below(memory, 80), 40);
-    put(memory, log::LENGTH, sum(settings::layout(s), more));
-    let late = below(memory, 8);
-    put(memory, log::LATE, late);
-    let end = log::extent(memory);
-    fill(memory, STORE, end, MARK, 1);
-    copy(memory, KEPT, STORE, end);
-}
-
 // A whole history with its first settings: in one of six a few calls on the unstarted store; a start; then the calls.
 pub fn play(memory: &mut Memory, s: Settings, calls: u32) {
-    prepare(memory, s);
+    draw::unstarted(memory, s);
     if once_in(memory, 6) {
         turns(memory, 3);
     }

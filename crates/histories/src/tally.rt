@@ -1,5 +1,6 @@
 // The totals, and what is printed.
 use model::memory::*;
+use model::totals::tell;
 use model::words::*;
 
 // In the order in which they are printed:
@@ -40,23 +41,6 @@ const HISTORY: u32 = TALLY + 64;
 pub const CALL: u32 = TALLY + 65;
 
 pub const STOPPED: u32 = TALLY + 66;
-
-const STDOUT: i32 = 1;
-
-// Writes a text, and in the place of each `#` the next number from word `from` on.
-fn tell(memory: &Memory, from: u32, text: &[u8]) {
-    let end = text.len();
-    let mut next = from;
-    for i in 0..end {
-        if text[i] == b'#' {
-            io::print_decimal(STDOUT, get(memory, next) as u64);
-            next = sum(next, 1);
-        } else {
-            let after = i + 1;
-            io::write_all(STDOUT, &text[i..after]);
-        }
-    }
-}
 
 // Notes what was found: 0 is nothing; else the history ends there, and the first twenty are printed.
 pub fn note(memory: &mut Memory, what: u32) {

@@ -22,6 +22,18 @@ pub fn length(memory: &mut Memory) -> u32 {
     }
 }
 
+// A store of marks, lent as long as the layout or somewhat longer; nothing is started yet.
+pub fn unstarted(memory: &mut Memory, s: Settings) {
+    book::begin(memory, s, 0);
+    let more = less(below(memory, 80), 40);
+    put(memory, log::LENGTH, sum(settings::layout(s), more));
+    let late = below(memory, 8);
+    put(memory, log::LATE, late);
+    let end = log::extent(memory);
+    fill(memory, STORE, end, MARK, 1);
+    copy(memory, KEPT, STORE, end);
+}
+
 // The clock moved on; past the last second it is OPEN.
 fn later(clock: u32, seconds: u32) -> u32 {
     let second = sum(clock, seconds);
@@ -111,6 +123,15 @@ pub fn settings(memory: &mut Memory) -> Settings {
         return bad;
     }
     settings::listed(below(memory, settings::LISTED))
+}
+
+// Any settings within the limits, but that book and store have room for 30 blocks and 60 tags.
+pub fn any_settings(memory: &mut Memory) -> Settings {
+    let block = sum(below(memory, 63), 2);
+    let useful = sum(below(memory, block / 2), 1);
+    let blocks = sum(below(memory, 28), 3);
+    let tags = sum(below(memory, 57), 4);
+    settings::of(block, useful, blocks, tags)
 }
 
 pub fn change(memory: &mut Memory, kind: u32) -> Change {

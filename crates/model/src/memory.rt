@@ -8,7 +8,7 @@ pub type Memory = [u32; WORDS];
 
 pub const STORE: u32 = 0;
 
-// The store as its last call had to leave it.
+// The store as its last call had to leave it, or as the next call finds it.
 pub const KEPT: u32 = 16384;
 
 // The store as its history left it, while damaged copies of it are tried.
@@ -20,7 +20,7 @@ pub const BOOK: u32 = 49152;
 pub const FORMER: u32 = 53248;
 
 // What the last look-back left of its two buffers and of the six words of its answer, or a window of its one buffer and of the one word of
-// its answer (calls.rt).
+// its answer (calls.rt of `histories`); of a change the answers of two builds (builds.rt of `both_builds`).
 pub const ROWS: u32 = 57344;
 
 pub const LIST: u32 = 57984;

@@ -21,7 +21,7 @@ pub fn of(block: u32, useful: u32, blocks: u32, tags: u32) -> Settings {
     }
 }
 
-// How many settings `listed` has for histories of 200 calls; the next one is for the long histories.
+// How many settings `listed` has for short histories; the next one is for the long histories.
 pub const LISTED: u32 = 10;
 
 // Settings number i: most are small, so that blocks fill, close and run out within a history; some have enough blocks for two and for

@@ -22,6 +22,14 @@ pub fn least(x: u32, y: u32) -> u32
     if x <= y { x } else { y }
 }
 
+// The same of two lengths: what is lent is cut to it.
+pub fn shorter(x: usize, y: usize) -> usize
+    ensures { λ r. ⌜ r ≤ x ⌝ }
+    ensures { λ r. ⌜ r ≤ y ⌝ }
+{
+    if x <= y { x } else { y }
+}
+
 // x × y for numbers below 65,536, which all of ours are; else 0.
 pub fn product(x: u32, y: u32) -> u32 {
     if 65536 <= x {

@@ -37,7 +37,7 @@ fn enter_time(store: &mut [u32], s: Settings, i: u32, second: u32)
 }
 
 // Block N + 1 opens at `second`, empty, to the right of block N (block 0 if N is 0).
-pub(crate) fn open_block(store: &mut [u32], h: Head, second: u32) -> Head
+pub fn open_block(store: &mut [u32], h: Head, second: u32) -> Head
     requires { ⌜ Able (h .settings) (openBlock (h .cursor) second) (now store) ⌝ }
     ensures { λ r. ⌜ Moved h (openBlock (h .cursor) second) (now (store .entry)) r (now (store .exit)) ⌝ }
 {
@@ -57,7 +57,7 @@ pub(crate) fn open_block(store: &mut [u32], h: Head, second: u32) -> Head
 }
 
 // Block x closes at `second` and leaves the row of open blocks; its up, block P, takes it as its last child.
-pub(crate) fn unlink(store: &mut [u32], h: Head, x: u32, second: u32) -> Head
+pub fn unlink(store: &mut [u32], h: Head, x: u32, second: u32) -> Head
     requires { ⌜ Able (h .settings) (unlink (h .cursor) x second) (now store) ⌝ }
     ensures { λ r. ⌜ Moved h (unlink (h .cursor) x second) (now (store .entry)) r (now (store .exit)) ⌝ }
 {

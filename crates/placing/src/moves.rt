@@ -22,11 +22,11 @@ fn move_all(store: &mut [u32], h: Head, x: u32, second: u32, bits: Standing) -> 
         (now (store .entry)) r (now (store .exit)) ⌝ }
 {
     let mut head = h;
-    let mut left = bits;
-    while !left.is_empty() {
-        let k = left.first();
+    let mut to_move = bits;
+    while !to_move.is_empty() {
+        let k = to_move.first();
         head = records::move_record(store, head, x, k, second);
-        left = left.rest();
+        to_move = to_move.rest();
     }
     head
 }
@@ -113,11 +113,11 @@ fn replace_all(store: &mut [u32], h: Head, x: u32, second: u32, bits: Standing) 
         (now (store .entry)) r (now (store .exit)) ⌝ }
 {
     let mut head = h;
-    let mut left = bits;
-    while !left.is_empty() {
-        let k = left.first();
+    let mut to_place = bits;
+    while !to_place.is_empty() {
+        let k = to_place.first();
         head = replace(store, head, x, k, second);
-        left = left.rest();
+        to_place = to_place.rest();
     }
     head
 }

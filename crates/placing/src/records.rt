@@ -16,7 +16,7 @@ ghost use Rattle.layout.specs.OnWords.{over};
 ghost use Rattle.calls.specs.Placing.{endRecord, putRecord, moveRecord};
 
 // The record of slot k of block n ends at `second`, and stands no more.
-pub(crate) fn end_record(store: &mut [u32], s: Settings, n: u32, k: u32, second: u32)
+pub fn end_record(store: &mut [u32], s: Settings, n: u32, k: u32, second: u32)
     requires { ⌜ Able s (endRecord n k second) (now store) ⌝ }
     ensures { λ _. ⌜ Ran (over s) (endRecord n k second) (now (store .entry)) tt (now (store .exit)) ⌝ }
 {
@@ -33,13 +33,7 @@ pub(crate) fn end_record(store: &mut [u32], s: Settings, n: u32, k: u32, second:
 }
 
 // A record goes to the acceptor's next slot, from `second` on, and the directory follows.
-pub(crate) fn put_record(
-    store: &mut [u32],
-    h: Head,
-    second: u32,
-    tag: u32,
-    payload: Payload,
-) -> Head
+pub fn put_record(store: &mut [u32], h: Head, second: u32, tag: u32, payload: Payload) -> Head
     requires { ⌜ Able (h .settings) (putRecord (h .settings) (h .cursor) second tag payload) (now store) ⌝ }
     ensures { λ r. ⌜ Moved h (putRecord (h .settings) (h .cursor) second tag payload)
         (now (store .entry)) r (now (store .exit)) ⌝ }

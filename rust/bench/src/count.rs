@@ -1,44 +1,86 @@
 //! One kind of call by one register, so that callgrind can count its instructions: only what runs inside
 //! `counted_change`, `counted_look_back` or `counted_window` is counted (count.sh). Inputs, start and the calls of other
 //! kinds run outside.
+use crate::closings::{self, Tally, Told};
 use crate::input::{self, Change, DAY, HOUR, Kind, MONTH, Span};
+#[cfg(feature = "array")]
+use bench::ThroughArray;
 use bench::{Answer, Calls, Independent, Proved, Refusal, Settings};
 use std::hint::black_box;
+use std::sync::atomic::{AtomicU32, Ordering};
 
-pub fn run(who: &str, what: &str, work: &str, block: &str) {
-    let settings = input::settings(block.parse().expect("b is a number"));
+pub fn run(who: &str, what: &str, work: &str, block: &str, useful: &str) {
+    let number = |word: &str| word.parse().expect("b and q are numbers");
+    let blocks = if work == "days" { 256 } else { input::BLOCKS }; // a trace is long: the store is kept short
+    let settings = Settings { useful: number(useful), blocks, ..input::settings(number(block)) };
     let all = input::named(work);
     let changes = input::cut(&all, settings);
     let count = match who {
         "proved" => count::<Proved>,
         "independent" => count::<Independent>,
+        #[cfg(feature = "array")]
+        "array" => count::<ThroughArray>,
         "nothing" => count::<Nothing>,
         _ => panic!("no such register: {who}"),
     };
-    println!("{}", count(what, settings, changes));
+    println!("{}", count(what, settings, changes, who == "nothing"));
 }
 
-/// Makes the calls and gives how many were counted.
-fn count<R: Calls>(what: &str, settings: Settings, changes: &[Change]) -> usize {
+/// Makes the calls and gives how many were counted; of closings the other numbers of their tally, too. An idle register
+/// does nothing.
+fn count<R: Calls>(what: &str, settings: Settings, changes: &[Change], idle: bool) -> String {
     let mut store = vec![0; settings.words()];
     Independent::start(&mut store, settings).expect("sound settings");
-    match what {
+    let calls = match what {
+        "closings" => return count_closings::<R>(&mut store, settings, changes, idle).to_string(),
         "sets" => count_changes::<R>(&mut store, Kind::Set, changes),
         "clears" => count_changes::<R>(&mut store, Kind::Clear, changes),
         "readings" => count_changes::<R>(&mut store, Kind::Update, changes),
         "lookbacks" => count_look_backs::<R>(&mut store, settings, changes),
         "windows" => count_windows::<R>(&mut store, settings, changes),
         _ => panic!("no such calls: {what}"),
+    };
+    calls.to_string()
+}
+
+/// A register's call for changes of one kind.
+fn change_call<R: Calls>(kind: Kind) -> ChangeCall {
+    match kind {
+        Kind::Set => |store, c| R::set(store, c.second, c.tag, c.reading).is_ok(),
+        Kind::Clear => |store, c| R::clear(store, c.second, c.tag).is_ok(),
+        Kind::Update => |store, c| R::update(store, c.second, c.tag, c.reading).is_ok(),
     }
+}
+
+/// 1 while a counted call runs that closes a block, for who traces all writes.
+static CLOSES: AtomicU32 = AtomicU32::new(0);
+
+/// All changes by one register; those that close a block are counted. They are foretold first, for all registers alike.
+/// The words after all are foretold, too; an idle register leaves those that were there. Prints where the store begins
+/// and ends, and where [`CLOSES`] is.
+fn count_closings<R: Calls>(store: &mut [u32], settings: Settings, changes: &[Change], idle: bool) -> Tally {
+    let Told { closes, tally, store: foretold } = closings::foretell(settings, changes);
+    let expected = if idle { store.to_vec() } else { foretold };
+    let lent = store.as_ptr_range();
+    println!("lent {:08x} {:08x} {:08x}", lent.start.addr(), lent.end.addr(), CLOSES.as_ptr().addr());
+    for (change, &closes) in changes.iter().zip(&closes) {
+        if closes {
+            let call = change_call::<R>(change.kind);
+            CLOSES.store(1, Ordering::SeqCst);
+            let accepted = counted_change(call, store, change);
+            CLOSES.store(0, Ordering::SeqCst);
+            assert!(accepted, "the changes are cut at the first refusal");
+        } else {
+            input::apply::<R>(store, change).expect("the changes are cut at the first refusal");
+        }
+    }
+    assert!(*store == expected, "a register leaves the foretold words; an idle one, those that were there");
+    tally
 }
 
 /// All changes by one register; those of one kind are counted.
 fn count_changes<R: Calls>(store: &mut [u32], kind: Kind, changes: &[Change]) -> usize {
-    let call: ChangeCall = match kind {
-        Kind::Set => |store, c| R::set(store, c.second, c.tag, c.reading).is_ok(),
-        Kind::Clear => |store, c| R::clear(store, c.second, c.tag).is_ok(),
-        Kind::Update => |store, c| R::update(store, c.second, c.tag, c.reading).is_ok(),
-    };
+    let call = change_call::<R>(kind);
     let mut counted = 0;
     for change in changes {
         if change.kind == kind {

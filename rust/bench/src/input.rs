@@ -47,6 +47,7 @@ pub fn settings(block: u32) -> Settings {
 pub fn named(work: &str) -> Vec<Change> {
     match work {
         "year" => year(),
+        "days" => days(4),
         "stress" => stress(),
         _ => panic!("no such work: {work}"),
     }
@@ -55,10 +56,15 @@ pub fn named(work: &str) -> Vec<Change> {
 /// 365 days of about 900 changes: 405 sets, as many clears, 90 new readings. Nine conditions of ten last some three hours,
 /// the tenth some eight days, so that about 400 stand at a time.
 pub fn year() -> Vec<Change> {
+    days(365)
+}
+
+/// The first days of the year.
+fn days(number: u32) -> Vec<Change> {
     let mut draw = Draw::new(2024);
     let mut input = Input::default();
     let (mut next_set, mut next_update) = (1, 1);
-    while next_set < 365 * DAY {
+    while next_set < number * DAY {
         let next_end = input.ends.peek().map_or(u32::MAX, |end| end.0.0);
         if next_end <= next_set && next_end <= next_update {
             input.clear_next();

@@ -28,6 +28,8 @@ mod independent;
 mod proved;
 mod refusal;
 mod settings;
+#[cfg(feature = "array")]
+mod through_array;
 
 pub use answer::{Answer, NONE};
 pub use independent::Independent;
@@ -35,6 +37,8 @@ pub use independent::Independent;
 pub use proved::Proved;
 pub use refusal::Refusal;
 pub use settings::{ROW, Settings};
+#[cfg(feature = "array")]
+pub use through_array::ThroughArray;
 
 /// An end not yet known, and no second: the largest word.
 pub const OPEN: u32 = u32::MAX;

@@ -1,8 +1,9 @@
 //! Measures the proved register beside its rivals. Prints the tables; writes only where it is told to.
 //!
 //! `cargo run --release` measures everything; `-- write ../docs` also puts the tables into ../docs/BENCHMARKS.md and
-//! the plot into ../docs/benchmarks.svg. `-- count proved sets year 16` makes one kind of call for callgrind, and
+//! the plot into ../docs/benchmarks.svg. `-- count proved sets year 16 4` makes one kind of call for callgrind, and
 //! `-- put counted ../docs` puts what it reads from standard input into the page; count.sh uses these two.
+mod closings;
 mod count;
 mod draw;
 mod input;
@@ -14,8 +15,10 @@ mod windows;
 
 use std::path::Path;
 
-const USAGE: &str = "usage: bench [write FOLDER | count WHO WHAT year|stress B | put NAME FOLDER]
-FOLDER: has BENCHMARKS.md; WHO: proved, independent or nothing; WHAT: sets, clears, readings, lookbacks or windows";
+const USAGE: &str = "usage: bench [write FOLDER | count WHO WHAT WORK B Q | put NAME FOLDER]
+FOLDER: has BENCHMARKS.md
+WHO: proved, independent, nothing or, with the feature `array`, array
+WHAT: sets, clears, readings, closings, lookbacks or windows; WORK: year, days (its first four) or stress";
 
 fn main() {
     let words: Vec<String> = std::env::args().skip(1).collect();
@@ -23,7 +26,7 @@ fn main() {
     match words[..] {
         [] => benchmark(None),
         ["write", folder] => benchmark(Some(Path::new(folder))),
-        ["count", who, what, work, block] => count::run(who, what, work, block),
+        ["count", who, what, work, block, useful] => count::run(who, what, work, block, useful),
         ["put", name, folder] => {
             let text = std::io::read_to_string(std::io::stdin()).expect("standard input is text");
             report::put(Path::new(folder), name, &text);

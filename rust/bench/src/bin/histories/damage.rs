@@ -1,4 +1,4 @@
-//! Damaged stores: the words that crates/histories/src/damaged.rt overwrites, and the calls that it makes then.
+//! Damaged stores: the words that crates/model/src/damage.rt overwrites, and the calls that crates/histories/src/damaged.rt makes then.
 use crate::account::{Account, Kind};
 use crate::draw::{self, Change};
 use crate::lent::Lent;

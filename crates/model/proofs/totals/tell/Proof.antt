@@ -1,15 +1,17 @@
--- `histories::damaged::overwrite` is safe and ends: the loop counts up to its end. Assumes nothing.
+-- `model::totals::tell` is safe and ends: the loop counts up to its end. Assumes nothing.
 use Prim.Native.Nat.{_-_}
 use borrow.Author.Needs.{needs}
-use Rattle.histories.proofs.damaged.overwrite.Statement.{statement}
-use Rattle.histories.proofs.damaged.overwrite.Tie as tie
+use Rattle.model.proofs.totals.tell.Statement.{statement}
+use Rattle.model.proofs.totals.tell.Tie as tie
 
-pub overwrite-spec : {M : Type 1} → statement M
-overwrite-spec =
+pub tell-spec : {M : Type 1} → statement M
+tell-spec =
     tie.close
     (tie.spec
     (λ _ _ _ _ _ _ _ _. Unit {0})
-    (λ _ _ _ _ times _ _ k. times - k)
+    (λ _ _ _ end _ _ _ i. end - i)
+    (search needs)
+    (search needs)
     (search needs)
     (search needs)
     (search needs)
