@@ -117,8 +117,8 @@ closings_tables() {
     echo
     echo '### Closings: instructions and data writes'
     echo
-    printf '| Work | b | q | Closings | Records moved, each | Instructions, straight | array | array / straight |'
-    echo ' Data writes, straight | array | array / straight |'
+    printf '| Work | b | q | Closings | Records, each | Instructions, straight | array | ratio |'
+    echo ' Data writes, straight | array | ratio |'
     echo '|---|---|---|---|---|---|---|---|---|---|---|'
     awk '
         function pair(straight, array) { printf " %.0f | %.0f | **%.2f** |", straight / n, array / n, array / straight }
@@ -128,7 +128,7 @@ closings_tables() {
     echo
     echo '### Closings: words written'
     echo
-    printf '| b | q | Closings | Records moved, each | Of the closing, by the rule |'
+    printf '| b | q | Closings | Records, each | Of the closing, by the rule |'
     echo ' Store, straight | array | Elsewhere, straight | array |'
     echo '|---|---|---|---|---|---|---|---|---|'
     awk '
