@@ -8,7 +8,7 @@ use layout::settings::Settings;
 use timeslice::{Slice, SliceAnswer};
 
 // The six calls. A look-back's two buffers are lent beside it.
-#[derive(Drop)]
+#[derive(Clone, Copy)]
 pub enum Call {
     // b, q, B and D
     Start(Settings),
@@ -25,7 +25,7 @@ pub enum Call {
 }
 
 // The next head, a look-back's numbers and pages, or a refusal by its number.
-#[derive(Drop)]
+#[derive(Clone, Copy)]
 pub enum Answer {
     Done(Head),
     Shown(Slice),

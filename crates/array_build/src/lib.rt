@@ -5,6 +5,8 @@
 // Its functions are proved safe and promise no words (docs/DECISIONS.md 53). They go by the register's own tests (`decisions`) and use its parts of a
 // change (a block opens, a block leaves the row, a record ends, a record is placed); what these ask for is tested here, where `placing` has it proved.
 // A part that is left out because such a test fails leaves other words than the register's; `both_builds` has found none.
+#![tactic(auto)]
+
 mod changing;
 mod closing;
 mod taken;

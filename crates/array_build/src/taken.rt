@@ -12,14 +12,14 @@ use layout::{address, fields, payload};
 use placing::records;
 
 // A record without its slot: its tag, and what it tells.
-#[derive(Drop)]
+#[derive(Clone, Copy)]
 pub struct Record {
     pub tag: u32,
     pub payload: Payload,
 }
 
 // The records taken out, from the first on: a block closes with fewer than q standing, and q is 32 at most.
-#[derive(Drop)]
+#[derive(Clone, Copy)]
 pub struct Taken {
     pub records: [Record; 32],
     pub count: u32,

@@ -82,7 +82,7 @@ module _ {A : Type 0} (d : Discrete A) where
   same_perm {l = x ∷ l} {m} s =
       let c = split_at x m (rw (← s.sums) (times_here x l)) in
       let r = same_rest c.before c.after (rw c.is_split at s) in
-      rw c.is_split (Perm.trans (Perm.cons x (same_perm r)) (Perm.symm (perm_middle c.before c.after)))
+      rw c.is_split (Perm.trans (Perm.cons x (same_perm {l = l} r)) (Perm.symm (perm_middle c.before c.after)))
 
 -- ---- no repetition
 

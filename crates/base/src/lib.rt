@@ -1,2 +1,4 @@
 // Laws alone: branches, sums, bits and lists, for the specs of the other crates.
+#![tactic(auto)]
+
 fn nothing() {}

@@ -2,6 +2,8 @@
 // (`array_build`); and changes on damaged stores. It prints totals and `mismatches 0`; a line `mismatch HISTORY CALL WHAT` says where the answers
 // (1), the next heads (2) or the words of the stores (3) differed, or where an answer was not the one due by the book (4). A history's number is
 // the seed of all that is drawn in it.
+#![tactic(auto)]
+
 mod builds;
 mod closings;
 mod damaged;

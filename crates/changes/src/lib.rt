@@ -4,6 +4,8 @@
 // Cost: a change touches a bounded number of blocks and reads what it needs only. No loop runs over the blocks, tags or seconds of a store but in
 // `start`, which fills the layout with zeros. A new block's words are set to zero in one loop; a closing moves its standing records one by one,
 // straight from their slots, with no array of records.
+#![tactic(auto)]
+
 ghost use Rattle.std.specs.Prelude.{◌≤◌};
 ghost use Rattle.calls.specs.Step.{start, set, clear, update, advance};
 ghost use Rattle.changes.specs.Replied.{Replied, clearing};
@@ -14,7 +16,7 @@ use layout::head::Head;
 use layout::settings::Settings;
 
 // What a call answers: the next head, or its refusal by the paper's number.
-#[derive(Drop)]
+#[derive(Clone, Copy)]
 pub enum Change {
     Done(Head),
     Refused(u32),

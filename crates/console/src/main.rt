@@ -1,4 +1,6 @@
 // THE CONSOLE PROGRAM (document 01, "The console program"): standard input to standard output.
+#![tactic(auto)]
+
 use console_io::sink::Sink;
 
 fn main() {

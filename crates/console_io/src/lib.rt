@@ -1,6 +1,8 @@
 // THE CONSOLE OVER DESCRIPTORS: input is read in chunks and fed byte by byte, and each output line is written, or compared with an expected one.
 // For the bytes that the reads leave in their buffer, the lines handed to `sink::emit` are the console's output (specs/Session.antt). What the
 // operating system reads and writes no contract can say.
+#![tactic(auto)]
+
 pub mod sink;
 
 ghost use Rattle.std.specs.Prelude.{◌≡◌, [], get_or};
@@ -27,14 +29,14 @@ const TAGS: usize = 4096;
 const ROWS: usize = print::ROW_LEN * TAGS;
 
 // A run so far.
-#[derive(Drop)]
+#[derive(Clone, Copy)]
 struct Session {
     console: Console,
     sink: Sink,
 }
 
 // One read: a part of the input was fed, or there is none left.
-#[derive(Drop)]
+#[derive(Clone, Copy)]
 enum Part {
     Fed(Session),
     End,

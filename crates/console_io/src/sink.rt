@@ -4,7 +4,7 @@ ghost use Rattle.console_io.specs.Sinks.{Emitted, FirstDifference};
 
 use console_run::feed::next_number;
 
-#[derive(Drop)]
+#[derive(Clone, Copy)]
 pub enum Sink {
     // written to a descriptor
     Write(i32),
@@ -17,7 +17,7 @@ pub enum Sink {
 }
 
 // The next byte that a descriptor gives.
-#[derive(Drop)]
+#[derive(Clone, Copy)]
 pub enum Next {
     Byte(u8),
     End,

@@ -8,7 +8,7 @@ use crate::turn;
 use crate::turn::{Said, Stage, Turn};
 use console_text::gather::{Fed, Gather, LINE_MOST};
 
-#[derive(Drop)]
+#[derive(Clone, Copy)]
 pub struct Console {
     pub stage: Stage,
     pub gather: Gather,
@@ -17,7 +17,7 @@ pub struct Console {
 }
 
 // What is said of the input line `number`, and the console after it.
-#[derive(Drop)]
+#[derive(Clone, Copy)]
 pub struct Step {
     pub console: Console,
     pub said: Said,

@@ -12,7 +12,7 @@ use console_text::parse::{Line, Numbers};
 use layout::settings::Settings;
 
 // The line that is awaited: one of the first three, a change, or none any more.
-#[derive(Drop)]
+#[derive(Clone, Copy)]
 pub enum Stage {
     SettingsNames,
     Settings,
@@ -22,7 +22,7 @@ pub enum Stage {
 }
 
 // What is printed for a line.
-#[derive(Drop)]
+#[derive(Clone, Copy)]
 pub enum Said {
     Nothing,
     Bad,
@@ -32,14 +32,14 @@ pub enum Said {
     Slice(u32, u32, u32),
 }
 
-#[derive(Drop)]
+#[derive(Clone, Copy)]
 pub struct Turn {
     pub next: Stage,
     pub said: Said,
 }
 
 // What a change line asks for.
-#[derive(Drop)]
+#[derive(Clone, Copy)]
 pub enum LineAsks {
     // at a time, a call
     Call(u32, Call),

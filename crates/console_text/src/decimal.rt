@@ -13,7 +13,7 @@ const MOST_ABOVE: u32 = 2147483647;
 const MOST_BELOW: u32 = 2147483648;
 
 // What a field stands for.
-#[derive(Drop)]
+#[derive(Clone, Copy)]
 pub enum Number {
     Plain(u32),
     None,

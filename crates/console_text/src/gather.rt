@@ -6,7 +6,7 @@ ghost use Rattle.console_text.specs.Lines.{new_line, left_over, Feeds};
 pub const LINE_MOST: usize = 80;
 
 // A line so far.
-#[derive(Drop)]
+#[derive(Clone, Copy)]
 pub struct Gather {
     // its bytes in the buffer
     pub len: usize,
@@ -15,7 +15,7 @@ pub struct Gather {
 }
 
 // What a byte does: the line goes on, or it is complete as it was before the byte.
-#[derive(Drop)]
+#[derive(Clone, Copy)]
 pub enum Fed {
     More(Gather),
     LineEnd,

@@ -24,7 +24,7 @@ const LOOK_BACK: u32 = b'?' as u32;
 const FIELDS: usize = 4;
 
 // How a field is read.
-#[derive(Drop)]
+#[derive(Clone, Copy)]
 pub enum Field {
     Word,
     Sign,
@@ -32,14 +32,14 @@ pub enum Field {
 }
 
 // What four fields say.
-#[derive(Drop)]
+#[derive(Clone, Copy)]
 pub enum Numbers {
     Four(u32, u32, u32, u32),
     Bad,
 }
 
 // A line after the third. A reading is its stored word.
-#[derive(Drop)]
+#[derive(Clone, Copy)]
 pub enum Line {
     // time, tag, reading
     Set(u32, u32, u32),

@@ -1,5 +1,7 @@
 // Whether a call is accepted, by the words that it finds: the refusals of document 01, "When a call is turned away", in their order. The store is only
 // read here, on any words, also on those that no history left; a place, slot or block is looked at only once it is known to lie in the store.
+#![tactic(auto)]
+
 mod effect;
 mod own;
 mod sound;
@@ -18,7 +20,7 @@ use layout::{head, refusal};
 pub use start::{StartVerdict, decide_start};
 
 // A change or clock move that may go on from this head, or its refusal.
-#[derive(Drop)]
+#[derive(Clone, Copy)]
 pub enum Verdict {
     Go(Head),
     Refused(u32),

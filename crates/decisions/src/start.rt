@@ -7,7 +7,7 @@ use layout::refusal;
 use layout::settings::{Settings, SettingsAnswer};
 
 // A start that may go on with these settings, or its refusal.
-#[derive(Drop)]
+#[derive(Clone, Copy)]
 pub enum StartVerdict {
     Go(Settings),
     Refused(u32),

@@ -1,5 +1,7 @@
 // The five change calls on document 01's printed changes, its edges P8 to P12, and one example of each refusal that a change knows. Prints
 // each answer with the next head, and the head, the directory and the opened blocks as words.
+#![tactic(auto)]
+
 use changes::Change;
 use layout::settings::Settings;
 
@@ -12,7 +14,7 @@ const SHORT: usize = 4623;
 type Store = [u32; WORDS];
 
 // A step: its kind, how many words of the store are lent, and three numbers more.
-#[derive(Drop)]
+#[derive(Clone, Copy)]
 struct Trial(u32, usize, u32, u32, u32);
 
 // b and B; a second, a tag and a reading, of which a call takes what it asks for; the place of a word and what is written there.

@@ -1,6 +1,8 @@
 // Random histories through the register, against the plain log and the block book of the crate `model`; and calls on damaged stores. It
 // prints totals and `mismatches 0`; a line `mismatch HISTORY CALL WHAT` says where something did not agree. A history's number is the seed
 // of all that is drawn in it.
+#![tactic(auto)]
+
 mod calls;
 mod damaged;
 mod history;

@@ -12,7 +12,7 @@ use crate::settings::Settings;
 use crate::standing::Standing;
 use crate::{fields, parts, sizes};
 
-#[derive(Drop)]
+#[derive(Clone, Copy)]
 pub enum Address {
     // a word of the head
     Head(usize),

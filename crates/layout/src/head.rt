@@ -14,7 +14,7 @@ use crate::settings::Settings;
 use crate::{address, fields, parts, refusal, sizes};
 
 // The part of the head that moves on: what is not settings.
-#[derive(Drop)]
+#[derive(Clone, Copy)]
 pub struct Cursor {
     // N: blocks opened; block N is the acceptor
     pub opened: u32,
@@ -28,7 +28,7 @@ pub struct Cursor {
     pub right: u32,
 }
 
-#[derive(Drop)]
+#[derive(Clone, Copy)]
 pub struct Head {
     pub settings: Settings,
     pub cursor: Cursor,

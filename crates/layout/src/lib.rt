@@ -1,5 +1,7 @@
 // The layout of the lent store: the only crate that knows numbers of words. Everything above names what it touches (Address), takes the head as
 // one value (Head), and is handed a block or a page as a part of the store.
+#![tactic(auto)]
+
 pub mod address;
 pub mod fields;
 pub mod head;

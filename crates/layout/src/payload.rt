@@ -10,7 +10,7 @@ use crate::address::Address;
 use crate::settings::Settings;
 use crate::{address, fields, parts};
 
-#[derive(Drop)]
+#[derive(Clone, Copy)]
 pub struct Payload {
     pub reading: u32,
     // the second of the last set or new reading

@@ -5,7 +5,7 @@ ghost use Rattle.layout.specs.SettingsLaws.{BlockLong, StoreLong};
 
 use crate::{refusal, sizes};
 
-#[derive(Drop)]
+#[derive(Clone, Copy)]
 pub struct Settings {
     // b: records in a block
     pub block: u32,
@@ -18,7 +18,7 @@ pub struct Settings {
 }
 
 // What the constructor answers: the settings, or refusal 1.
-#[derive(Drop)]
+#[derive(Clone, Copy)]
 pub enum SettingsAnswer {
     Fit(Settings),
     Refused(u32),

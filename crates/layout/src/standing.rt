@@ -5,7 +5,7 @@ ghost use Rattle.base.specs.Ones.{lower_off};
 ghost use Rattle.layout.specs.Standing.{slots, stands, raised, lowered, first_slot, other_slots};
 ghost use Rattle.layout.specs.StandingLaws.{none};
 
-#[derive(Drop)]
+#[derive(Clone, Copy)]
 pub struct Standing {
     // slots 0 to 31
     pub low: u32,

@@ -16,7 +16,7 @@ pub const LOOK_BACK: u32 = 6;
 pub const WINDOW: u32 = 7;
 
 // A set, clear, new reading or clock move, with the number of words that are lent.
-#[derive(Drop)]
+#[derive(Clone, Copy)]
 pub struct Change {
     pub kind: u32,
     pub length: u32,
@@ -26,7 +26,7 @@ pub struct Change {
 }
 
 // A look-back, with the numbers of words that are lent: of the store, for rows, and for the list.
-#[derive(Drop)]
+#[derive(Clone, Copy)]
 pub struct LookBack {
     pub length: u32,
     pub second: u32,
@@ -35,7 +35,7 @@ pub struct LookBack {
 }
 
 // A window from a first to a last second, with the numbers of words that are lent: of the store, and for rows.
-#[derive(Drop)]
+#[derive(Clone, Copy)]
 pub struct Window {
     pub length: u32,
     pub first: u32,

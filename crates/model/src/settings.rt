@@ -1,7 +1,7 @@
 // The settings that the histories run with, and where document 01 lays each word of a store with them.
 use crate::words::*;
 
-#[derive(Drop)]
+#[derive(Clone, Copy)]
 pub struct Settings {
     // b: records in a block
     pub block: u32,

@@ -1,4 +1,6 @@
 // What every query begins with: a store whose head is sound and that is at least as long as its layout, or the refusal of its words.
+#![tactic(auto)]
+
 ghost use Rattle.queries.specs.Readable.{Opens};
 
 use layout::{head, refusal};

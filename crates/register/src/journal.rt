@@ -22,14 +22,14 @@ const UPDATE: u32 = 4;
 const ADVANCE: u32 = 5;
 
 // What a replay did: the entries that it read, and how many of these were accepted.
-#[derive(Drop)]
+#[derive(Clone, Copy)]
 pub struct Tally {
     pub entries: usize,
     pub accepted: usize,
 }
 
 // What an entry did: it counts 1 if it was accepted and 0 if it was refused, or it ends the journal.
-#[derive(Drop)]
+#[derive(Clone, Copy)]
 enum Played {
     Counts(usize),
     Ends,

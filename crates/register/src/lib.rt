@@ -1,5 +1,7 @@
 // THE REGISTER, the public face: any of document 01's six calls as one value (apply), a store rebuilt from a journal (replay), and for callers in C
 // and Rust the six calls and the window, each proved equal to its definition (calls.specs.Step), the replay, and how many words a store takes.
+#![tactic(auto)]
+
 mod journal;
 
 ghost use Rattle.std.specs.Prelude.{◌≡◌, [], ◌∷◌};

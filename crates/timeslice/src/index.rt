@@ -10,7 +10,7 @@ use layout::head::Head;
 use layout::{PAGE, parts};
 
 // The block that starts the path, 0 if there is none; the pages read, and on each level the page passed, OPEN if none.
-#[derive(Drop)]
+#[derive(Clone, Copy)]
 pub struct PathStart {
     pub block: u32,
     pub read: u32,
@@ -19,7 +19,7 @@ pub struct PathStart {
     pub page2: u32,
 }
 
-#[derive(Drop)]
+#[derive(Clone, Copy)]
 pub enum Searched {
     At(PathStart),
     Unsound,

@@ -1,4 +1,6 @@
 // The look-back: what stood at a past second, read from the store's own words (document 01, "The look-back").
+#![tactic(auto)]
+
 mod index;
 mod rows;
 mod visited;
@@ -16,7 +18,7 @@ use layout::{head, parts, refusal};
 use walk::Walked;
 
 // Rows given, pages read and blocks listed.
-#[derive(Drop)]
+#[derive(Clone, Copy)]
 pub struct Counts {
     pub rows: u32,
     pub pages: u32,
@@ -24,7 +26,7 @@ pub struct Counts {
 }
 
 // What an answered look-back says beside its two buffers: the three numbers, and for each level of the index the page passed, OPEN if none.
-#[derive(Drop)]
+#[derive(Clone, Copy)]
 pub struct Slice {
     pub counts: Counts,
     pub page0: u32,
@@ -32,14 +34,14 @@ pub struct Slice {
     pub page2: u32,
 }
 
-#[derive(Drop)]
+#[derive(Clone, Copy)]
 pub enum SliceAnswer {
     Answered(Slice),
     Refused(u32),
 }
 
 // What search and path come to: a slice, with its rows and its list in the two buffers; or a word of the store is unsound.
-#[derive(Drop)]
+#[derive(Clone, Copy)]
 pub enum WalkAnswer {
     Whole(Slice),
     Unsound,

@@ -7,7 +7,7 @@ use layout::settings::Settings;
 use layout::{fields, parts, payload};
 
 // Rows given so far, those taken counted; or there are more than D.
-#[derive(Drop)]
+#[derive(Clone, Copy)]
 pub enum Took {
     Rows(u32),
     TooMany,

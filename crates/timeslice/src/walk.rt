@@ -14,14 +14,14 @@ use layout::settings::Settings;
 use layout::{fields, parts};
 
 // What a part of the walk comes to: all that is counted so far, or a link that is unsound or more rows than tags.
-#[derive(Drop)]
+#[derive(Clone, Copy)]
 pub enum Walked {
     Done(Counts),
     Unsound,
 }
 
 // What a link comes to, with the blocks listed so far.
-#[derive(Drop)]
+#[derive(Clone, Copy)]
 pub enum Entered {
     // it leads to a block that closes after t
     Within(u32),
@@ -31,14 +31,14 @@ pub enum Entered {
 }
 
 // A path block: its up, its left neighbour, and what is counted with its rows.
-#[derive(Drop)]
+#[derive(Clone, Copy)]
 pub struct PathBlock {
     pub up: u32,
     pub next: u32,
     pub counts: Counts,
 }
 
-#[derive(Drop)]
+#[derive(Clone, Copy)]
 pub enum Climbed {
     On(PathBlock),
     Unsound,

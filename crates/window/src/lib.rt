@@ -1,5 +1,7 @@
 // Crossing a window (document 02, request 2): each tag that stood at some second from a first to a last, once, as its
 // latest record there tells it.
+#![tactic(auto)]
+
 mod latest;
 mod rows;
 
@@ -14,7 +16,7 @@ use layout::head::Head;
 use layout::{head, parts, refusal};
 
 // How many rows are given, or a refusal.
-#[derive(Drop)]
+#[derive(Clone, Copy)]
 pub enum WindowAnswer {
     Rows(u32),
     Refused(u32),

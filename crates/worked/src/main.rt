@@ -1,5 +1,7 @@
 // THE WORKED CASES (data/README.md): the file `cases` names each case on a line of its own. The console's run over NAME.in must print NAME.out, byte
 // for byte, and the windows of NAME.windows, if it is there, must give its rows. A case that does not agree is told with the first line that differs.
+#![tactic(auto)]
+
 mod case;
 mod windows;
 
@@ -11,7 +13,7 @@ use libc::STDOUT_FILENO;
 use windows::Windows;
 
 // The line of `cases` that is being read, how many cases were run, how many of these have windows, and how many did not agree.
-#[derive(Drop)]
+#[derive(Clone, Copy)]
 struct Tally {
     gather: Gather,
     cases: u64,

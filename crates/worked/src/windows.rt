@@ -17,7 +17,7 @@ const LIST: usize = 4096;
 
 const ROWS: usize = 12288;
 
-#[derive(Drop)]
+#[derive(Clone, Copy)]
 pub(crate) enum Windows {
     None,
     Agree,
@@ -25,7 +25,7 @@ pub(crate) enum Windows {
 }
 
 // What the lines so far came to.
-#[derive(Drop)]
+#[derive(Clone, Copy)]
 enum Found {
     // the last window gave so many rows, and so many of them are still to be compared
     Agrees(u32, u32),
@@ -38,7 +38,7 @@ enum Found {
 }
 
 // The line that is being read, how many were read before it, and what these came to: one that does not agree is the last.
-#[derive(Drop)]
+#[derive(Clone, Copy)]
 struct Check {
     gather: Gather,
     lines: u64,
