@@ -1,16 +1,16 @@
 -- What a head that was read is known to be.
-use Rattle.std.specs.Prelude.{◌≡◌, refl, ◌≢◌, Bool, true, false, not, ◌&&◌, ◌||◌, List, ℕ, ◌+◌, ◌*◌, ◌-◌, ◌≤◌, ◌<◌, eqb, ltb, leb, get_or}
-use Rattle.std.proofs.Common.{ap, arith, mul-le-mul, length-drop}
+use Rattle.std.specs.Prelude.{◌≡◌, refl, Bool, true, false, not, ◌&&◌, ◌||◌, List, ℕ, ◌+◌, ◌*◌, ◌-◌, ◌≤◌, ◌<◌, eqb, ltb, leb, get_or}
+use Rattle.std.proofs.Common.{arith, mul-le-mul, length-drop}
 use Rattle.std.proofs.Math.Bool.{cond}
 use Rattle.std.proofs.Math.ListN.{length}
-use borrow.Author.Tests.{eqb-true, eqb-false, eq-eqb, ne_eqb, ltb-false, le-ltb, leb-true, le-leb, not-false}
+use borrow.Author.Tests.{eqb-true, eqb-false, eq-eqb, ne_eqb, ltb-false, leb-true, le-leb, not-false}
 use Rattle.base.specs.Branch.{by_test, is?, and-true, or-false}
 use Rattle.layout.specs.declared.head.Head.{Head}
 use Rattle.layout.specs.Sizes.{OPEN, mark, head_len}
 use Rattle.layout.specs.Fields.{head_mark, head_spare}
 use Rattle.layout.specs.RefusalNumbers.{SHORT_HEAD, HEAD}
 use Rattle.layout.specs.Settings.{in_limits, Within}
-use Rattle.layout.specs.SettingsLaws.{limits_within, within_limits}
+use Rattle.layout.specs.SettingsLaws.{limits_within}
 use Rattle.layout.specs.Head.{head_of, head_words, with_head, fill_fits, spare_zero, bad_head, head_refusal}
 
 -- a head within its limits: settings, blocks opened, clock, and the fill rule (0 for N = 0, else 1 to b)
