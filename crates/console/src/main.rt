@@ -2,7 +2,8 @@
 #![tactic(auto)]
 
 use console_io::sink::Sink;
+use std::os::fd::AsRawFd;
 
-fn main() {
-    console_io::run(libc::STDIN_FILENO, Sink::Write(libc::STDOUT_FILENO));
+fn main(rt: HostRuntime) {
+    console_io::run(&mut rt.stdin(), Sink::Write(rt.stdout().as_raw_fd()));
 }

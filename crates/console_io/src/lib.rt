@@ -18,6 +18,7 @@ use console_run::turn::{Said, Stage};
 use console_text::gather::LINE_MOST;
 use console_text::print::LINE_ROOM;
 use sink::Sink;
+use std::io::Read;
 
 // The store, and buffers that are large enough for every settings.
 const STORE: usize = 16000;
@@ -156,10 +157,18 @@ fn feed_read(
     Part::Fed(feed_all(session, &chunk[..n], line, store, rows, list))
 }
 
+// What one read into the chunk answers: how many bytes, or -1 where it fails.
+fn answer<R: Read>(input: &mut R, chunk: &mut [u8]) -> isize {
+    match input.read(chunk) {
+        Ok(n) => n as isize,
+        Err(_) => -1,
+    }
+}
+
 // One read into the chunk. What it answers no contract can say.
-fn read_some(
+fn read_some<R: Read>(
     session: Session,
-    input: i32,
+    input: &mut R,
     chunk: &mut [u8],
     line: &mut [u8; LINE_MOST],
     store: &mut [u32; STORE],
@@ -170,14 +179,14 @@ fn read_some(
         (running session line.old store.old rows.old list.old)
         result line.new store.new rows.new list.new }
 {
-    let got = libc::read(input, chunk);
+    let got = answer(input, chunk);
     feed_read(session, got, chunk, line, store, rows, list)
 }
 
 // The whole input. Nothing says that an input ends, so the reads are counted down from a number that no input uses up.
-fn read_all(
+fn read_all<R: Read>(
     session: Session,
-    input: i32,
+    input: &mut R,
     line: &mut [u8; LINE_MOST],
     store: &mut [u32; STORE],
     rows: &mut [u32; ROWS],
@@ -226,8 +235,8 @@ fn finish(
     print_said(printed, print::at_end(stage), next.number, rows)
 }
 
-// The console's run over all that the descriptor `input` gives.
-pub fn run(input: i32, sink: Sink) -> Sink
+// The console's run over all that `input` gives. A read that fails ends it, as the input's end does.
+pub fn run<R: Read>(input: &mut R, sink: Sink) -> Sink
     ensures { Ran sink result }
 {
     let mut line = [0u8; LINE_MOST];

@@ -25,7 +25,7 @@ pub enum Next {
 
 pub fn next_byte(fd: i32) -> Next {
     let mut next = [0u8; 1];
-    if libc::read(fd, &mut next) < 1 {
+    if io::read_full(fd, &mut next) < 1 {
         return Next::End;
     }
     Next::Byte(next[0])

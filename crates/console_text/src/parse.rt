@@ -1,11 +1,11 @@
 // An input line read: a names line, the settings, or a change. Any other line is Bad.
-ghost use Rattle.std.specs.Prelude.{◌≡◌, true, length};
+ghost use Rattle.std.specs.Prelude.{◌≡◌, true, ◌≤◌, length};
 ghost use Rattle.console_text.specs.Input.{settings_names, change_names, sign_of, number_in, numbers_of, numbers_in, settings_line, by_sign, change_line};
-ghost use Rattle.console_text.specs.Fields.{fields_of, first_field, after_field};
+ghost use Prim.Native.Char.{code};
+ghost use Rattle.console_text.specs.Fields.{fields_of, index_of, first_field, after_field};
 
 use crate::decimal;
 use crate::decimal::Number;
-use bytes::scan;
 
 const COMMA: u8 = b',';
 
@@ -85,11 +85,24 @@ fn field_count(line: &[u8]) -> usize
     count
 }
 
+// Where the first comma is; the line's length if there is none.
+fn find_comma(line: &[u8]) -> usize
+    ensures bound { result ≤ length line.now }
+    ensures value { result ≡ index_of (code ",") line.now }
+{
+    for (i, &byte) in line.iter().enumerate() {
+        if byte == COMMA {
+            return i;
+        }
+    }
+    line.len()
+}
+
 // The field before the first comma; the whole line if there is none.
 fn first_field(line: &[u8]) -> &[u8]
     ensures { result.now ≡ first_field line.now }
 {
-    let end = scan::find(line, 0, line.len(), COMMA);
+    let end = find_comma(line);
     &line[..end]
 }
 
@@ -97,7 +110,7 @@ fn first_field(line: &[u8]) -> &[u8]
 fn after_field(line: &[u8]) -> &[u8]
     ensures { result.now ≡ after_field line.now }
 {
-    let end = scan::find(line, 0, line.len(), COMMA);
+    let end = find_comma(line);
     if end == line.len() {
         return &line[end..];
     }

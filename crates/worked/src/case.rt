@@ -3,7 +3,13 @@ use console_io::sink;
 use console_io::sink::{Next, Sink};
 use console_run::feed::{COUNT_MOST, next_number};
 use console_text::gather::LINE_MOST;
-use libc::STDOUT_FILENO;
+use std::fs;
+use std::fs::File;
+use std::io::empty;
+use std::os::fd::AsRawFd;
+use std::rt::Files;
+
+pub(crate) const STDOUT: i32 = 1;
 
 // A name with its ending fits a line of `cases`.
 const NAME_MOST: usize = LINE_MOST - 4;
@@ -15,38 +21,57 @@ fn put(line: &mut [u8; LINE_MOST], at: usize, byte: u8) {
 }
 
 // The file that the first `len` bytes name.
-fn open_start(line: &[u8], len: usize) -> i32 {
+fn open_start<R: Files<File = File>>(rt: &R, line: &[u8], len: usize) -> Option<File> {
     if line.len() < len {
-        return -1;
+        return None;
     }
-    os::open_read(&line[..len])
+    let Ok(name) = str::from_utf8(&line[..len]) else {
+        return None;
+    };
+    fs::open(rt, name).ok()
 }
 
-pub(crate) fn open_in(line: &mut [u8; LINE_MOST], len: usize) -> i32 {
+// An open file's descriptor; where there is none, one that gives nothing.
+pub(crate) fn descriptor(file: &Option<File>) -> i32 {
+    match file {
+        Some(open) => open.as_raw_fd(),
+        None => -1,
+    }
+}
+
+pub(crate) fn open_in<R: Files<File = File>>(
+    rt: &R,
+    line: &mut [u8; LINE_MOST],
+    len: usize,
+) -> Option<File> {
     if NAME_MOST < len {
-        return -1;
+        return None;
     }
     put(line, len, b'.');
     put(line, len + 1, b'i');
     put(line, len + 2, b'n');
-    open_start(line, len + 3)
+    open_start(rt, line, len + 3)
 }
 
-fn open_out(line: &mut [u8; LINE_MOST], len: usize) -> i32 {
+fn open_out<R: Files<File = File>>(rt: &R, line: &mut [u8; LINE_MOST], len: usize) -> Option<File> {
     if NAME_MOST < len {
-        return -1;
+        return None;
     }
     put(line, len, b'.');
     put(line, len + 1, b'o');
     put(line, len + 2, b'u');
     put(line, len + 3, b't');
-    open_start(line, len + 4)
+    open_start(rt, line, len + 4)
 }
 
 // A name is then shorter by four bytes.
-pub(crate) fn open_windows(line: &mut [u8; LINE_MOST], len: usize) -> i32 {
+pub(crate) fn open_windows<R: Files<File = File>>(
+    rt: &R,
+    line: &mut [u8; LINE_MOST],
+    len: usize,
+) -> Option<File> {
     if NAME_MOST - 4 < len {
-        return -1;
+        return None;
     }
     put(line, len, b'.');
     put(line, len + 1, b'w');
@@ -56,7 +81,7 @@ pub(crate) fn open_windows(line: &mut [u8; LINE_MOST], len: usize) -> i32 {
     put(line, len + 5, b'o');
     put(line, len + 6, b'w');
     put(line, len + 7, b's');
-    open_start(line, len + 8)
+    open_start(rt, line, len + 8)
 }
 
 // The name, and what is said of it.
@@ -64,8 +89,8 @@ pub(crate) fn tell(line: &[u8], len: usize, what: &[u8]) {
     if line.len() < len {
         return;
     }
-    io::write_all(STDOUT_FILENO, &line[..len]);
-    io::write_all(STDOUT_FILENO, what);
+    io::write_all(STDOUT, &line[..len]);
+    io::write_all(STDOUT, what);
 }
 
 // One line of what a descriptor gives, counted from 1.
@@ -74,12 +99,12 @@ fn show_line(fd: i32, number: u64) {
     let mut bytes = COUNT_MOST;
     while 0 < bytes {
         let Next::Byte(byte) = sink::next_byte(fd) else {
-            io::write_all(STDOUT_FILENO, b"(no such line)\n");
+            io::write_all(STDOUT, b"(no such line)\n");
             return;
         };
         if at == number {
             let one = [byte];
-            io::write_all(STDOUT_FILENO, &one);
+            io::write_all(STDOUT, &one);
         }
         if byte == b'\n' {
             if at == number {
@@ -91,52 +116,71 @@ fn show_line(fd: i32, number: u64) {
     }
 }
 
-fn show_expected(line: &mut [u8; LINE_MOST], len: usize, number: u64) {
-    let expected = open_out(line, len);
-    show_line(expected, number);
-    libc::close(expected);
+fn show_expected<R: Files<File = File>>(
+    rt: &R,
+    line: &mut [u8; LINE_MOST],
+    len: usize,
+    number: u64,
+) {
+    let expected = open_out(rt, line, len);
+    show_line(descriptor(&expected), number);
 }
 
-pub(crate) fn show_window(line: &mut [u8; LINE_MOST], len: usize, number: u64) {
-    let expected = open_windows(line, len);
-    show_line(expected, number);
-    libc::close(expected);
+pub(crate) fn show_window<R: Files<File = File>>(
+    rt: &R,
+    line: &mut [u8; LINE_MOST],
+    len: usize,
+    number: u64,
+) {
+    let expected = open_windows(rt, line, len);
+    show_line(descriptor(&expected), number);
 }
 
 // The console runs once more, and of its lines that one alone is written.
-fn show_printed(line: &mut [u8; LINE_MOST], len: usize, number: u64) {
-    let input = open_in(line, len);
-    if let Sink::Pick(_, left) = console_io::run(input, Sink::Pick(STDOUT_FILENO, number)) {
+fn show_printed<R: Files<File = File>>(
+    rt: &R,
+    line: &mut [u8; LINE_MOST],
+    len: usize,
+    number: u64,
+) {
+    let one = Sink::Pick(STDOUT, number);
+    let printed = match open_in(rt, line, len) {
+        Some(mut input) => console_io::run(&mut input, one),
+        None => console_io::run(&mut empty(), one),
+    };
+    if let Sink::Pick(_, left) = printed {
         if left != 0 {
-            io::write_all(STDOUT_FILENO, b"(no such line)\n");
+            io::write_all(STDOUT, b"(no such line)\n");
         }
     }
-    libc::close(input);
 }
 
 // Whether the case that the first `len` bytes of a line of `cases` name agrees; if not, it says so.
-pub(crate) fn agrees(line: &mut [u8; LINE_MOST], len: usize) -> bool {
-    let input = open_in(line, len);
-    if input < 0 {
+pub(crate) fn agrees<R: Files<File = File>>(
+    rt: &R,
+    line: &mut [u8; LINE_MOST],
+    len: usize,
+) -> bool {
+    let Some(mut input) = open_in(rt, line, len) else {
         tell(line, len, b": its .in file is missing\n");
         return false;
-    }
-    let expected = open_out(line, len);
-    if expected < 0 {
+    };
+    let Some(expected) = open_out(rt, line, len) else {
         tell(line, len, b": its .out file is missing\n");
         return false;
-    }
-    let difference = sink::first_difference(console_io::run(input, Sink::Compare(expected, 0)));
-    libc::close(input);
-    libc::close(expected);
+    };
+    let compared = Sink::Compare(expected.as_raw_fd(), 0);
+    let difference = sink::first_difference(console_io::run(&mut input, compared));
+    drop(input);
+    drop(expected);
     if difference == 0 {
         return true;
     }
     tell(line, len, b": the output differs at line ");
-    io::print_decimal(STDOUT_FILENO, difference);
-    io::write_all(STDOUT_FILENO, b"\nexpected: ");
-    show_expected(line, len, difference);
-    io::write_all(STDOUT_FILENO, b"printed:  ");
-    show_printed(line, len, difference);
+    io::print_decimal(STDOUT, difference);
+    io::write_all(STDOUT, b"\nexpected: ");
+    show_expected(rt, line, len, difference);
+    io::write_all(STDOUT, b"printed:  ");
+    show_printed(rt, line, len, difference);
     false
 }

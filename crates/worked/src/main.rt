@@ -5,11 +5,15 @@
 mod case;
 mod windows;
 
+use case::STDOUT;
 use console_io::sink;
 use console_io::sink::Next;
 use console_run::feed::{COUNT_MOST, next_number};
 use console_text::gather::{Fed, Gather, LINE_MOST};
-use libc::STDOUT_FILENO;
+use std::fs;
+use std::fs::File;
+use std::os::fd::AsRawFd;
+use std::rt::Files;
 use windows::Windows;
 
 // The line of `cases` that is being read, how many cases were run, how many of these have windows, and how many did not agree.
@@ -53,17 +57,22 @@ fn ran(tally: Tally, agrees: bool, windows: Windows) -> Tally {
 }
 
 // The line is complete: a case, unless it is empty.
-fn named(tally: Tally, line: &mut [u8; LINE_MOST]) -> Tally {
+fn named<R: Files<File = File>>(rt: &R, tally: Tally, line: &mut [u8; LINE_MOST]) -> Tally {
     let gather = tally.gather;
     if gather.len == 0 {
         return tally;
     }
-    let agrees = case::agrees(line, gather.len);
-    let windows = windows::agree(line, gather.len);
+    let agrees = case::agrees(rt, line, gather.len);
+    let windows = windows::agree(rt, line, gather.len);
     ran(tally, agrees, windows)
 }
 
-fn read_byte(tally: Tally, byte: u8, line: &mut [u8; LINE_MOST]) -> Tally {
+fn read_byte<R: Files<File = File>>(
+    rt: &R,
+    tally: Tally,
+    byte: u8,
+    line: &mut [u8; LINE_MOST],
+) -> Tally {
     let gather = tally.gather;
     match gather.feed(line, byte) {
         Fed::More(longer) => Tally {
@@ -72,12 +81,12 @@ fn read_byte(tally: Tally, byte: u8, line: &mut [u8; LINE_MOST]) -> Tally {
             windows: tally.windows,
             failed: tally.failed,
         },
-        Fed::LineEnd => named(tally, line),
+        Fed::LineEnd => named(rt, tally, line),
     }
 }
 
 // Every line of `cases`. Nothing says that a file ends, so the bytes are counted down from a number that no file uses up.
-fn read_cases(list: i32, line: &mut [u8; LINE_MOST]) -> Tally {
+fn read_cases<R: Files<File = File>>(rt: &R, list: i32, line: &mut [u8; LINE_MOST]) -> Tally {
     let gather = Gather::new();
     let mut tally = Tally {
         gather,
@@ -88,31 +97,30 @@ fn read_cases(list: i32, line: &mut [u8; LINE_MOST]) -> Tally {
     let mut bytes = COUNT_MOST;
     while 0 < bytes {
         let Next::Byte(byte) = sink::next_byte(list) else {
-            return named(tally, line);
+            return named(rt, tally, line);
         };
-        tally = read_byte(tally, byte, line);
+        tally = read_byte(rt, tally, byte, line);
         bytes -= 1;
     }
     tally
 }
 
-fn main() {
-    let list = os::open_read(b"cases");
-    if list < 0 {
-        io::write_all(STDOUT_FILENO, b"the file cases is missing\n");
+fn main(rt: HostRuntime) {
+    let Ok(list) = fs::open(&rt, "cases") else {
+        io::write_all(STDOUT, b"the file cases is missing\n");
         return;
-    }
+    };
     let mut line = [0u8; LINE_MOST];
-    let tally = read_cases(list, &mut line);
+    let tally = read_cases(&rt, list.as_raw_fd(), &mut line);
     if tally.cases == 0 {
-        io::write_all(STDOUT_FILENO, b"the file cases names no case\n");
+        io::write_all(STDOUT, b"the file cases names no case\n");
         return;
     }
     if tally.windows == 0 {
-        io::write_all(STDOUT_FILENO, b"no case has a file of windows\n");
+        io::write_all(STDOUT, b"no case has a file of windows\n");
         return;
     }
     if tally.failed == 0 {
-        io::write_all(STDOUT_FILENO, b"every worked case agrees\n");
+        io::write_all(STDOUT, b"every worked case agrees\n");
     }
 }

@@ -1,13 +1,15 @@
 // The windows of a worked case: NAME.windows, if there is one, over the store that NAME.in leaves. After its names line each window is asked on a line
 // of its own, with how many rows it must give or its refusal; behind it stand those rows, each as the input line that set it or gave its reading.
 use crate::case;
+use crate::case::STDOUT;
 use console_io::sink;
 use console_io::sink::Next;
 use console_run::feed::{COUNT_MOST, Console, next_number};
 use console_text::gather::{Fed, Gather, LINE_MOST};
 use console_text::parse;
 use console_text::parse::{Line, Numbers};
-use libc::STDOUT_FILENO;
+use std::fs::File;
+use std::rt::Files;
 use window::WindowAnswer;
 
 // The console's store, and buffers that are large enough for every settings.
@@ -252,34 +254,34 @@ fn read_windows(file: i32, store: &[u32; STORE]) -> Check {
 }
 
 fn tell(number: u32) {
-    io::print_decimal(STDOUT_FILENO, number as u64);
+    io::print_decimal(STDOUT, number as u64);
 }
 
 // What the register gave where the file has something else.
 fn tell_given(found: Found) {
-    io::write_all(STDOUT_FILENO, b"given:    ");
+    io::write_all(STDOUT, b"given:    ");
     match found {
         Found::Agrees(_, left) => {
             tell(left);
-            io::write_all(STDOUT_FILENO, b" rows more, of a window that is asked\n");
+            io::write_all(STDOUT, b" rows more, of a window that is asked\n");
         }
         Found::Answer(count, refusal) => {
             tell(count);
-            io::write_all(STDOUT_FILENO, b" rows, refusal ");
+            io::write_all(STDOUT, b" rows, refusal ");
             tell(refusal);
-            io::write_all(STDOUT_FILENO, b"\n");
+            io::write_all(STDOUT, b"\n");
         }
         Found::Row(since, tag, reading) => {
-            io::write_all(STDOUT_FILENO, b"since ");
+            io::write_all(STDOUT, b"since ");
             tell(since);
-            io::write_all(STDOUT_FILENO, b", tag ");
+            io::write_all(STDOUT, b", tag ");
             tell(tag);
-            io::write_all(STDOUT_FILENO, b", the reading's word ");
+            io::write_all(STDOUT, b", the reading's word ");
             tell(reading);
-            io::write_all(STDOUT_FILENO, b"\n");
+            io::write_all(STDOUT, b"\n");
         }
         Found::Bad => {
-            io::write_all(STDOUT_FILENO, b"(no line of a window or a row)\n");
+            io::write_all(STDOUT, b"(no line of a window or a row)\n");
         }
     }
 }
@@ -303,26 +305,30 @@ fn is_whole(check: Check) -> bool {
 }
 
 // Whether the windows of the case that the first `len` bytes of a line of `cases` name agree; if not, it says so.
-pub(crate) fn agree(line: &mut [u8; LINE_MOST], len: usize) -> Windows {
-    let file = case::open_windows(line, len);
-    if file < 0 {
+pub(crate) fn agree<R: Files<File = File>>(
+    rt: &R,
+    line: &mut [u8; LINE_MOST],
+    len: usize,
+) -> Windows {
+    let file = case::open_windows(rt, line, len);
+    if file.is_none() {
         return Windows::None;
     }
     let mut store = [0u32; STORE];
-    let input = case::open_in(line, len);
-    play(input, &mut store);
-    let check = read_windows(file, &store);
-    libc::close(input);
-    libc::close(file);
+    let input = case::open_in(rt, line, len);
+    play(case::descriptor(&input), &mut store);
+    let check = read_windows(case::descriptor(&file), &store);
+    drop(input);
+    drop(file);
     if is_whole(check) {
         return Windows::Agree;
     }
     let found = check.found;
     let number = line_of(check);
     case::tell(line, len, b": its windows differ at line ");
-    io::print_decimal(STDOUT_FILENO, number);
-    io::write_all(STDOUT_FILENO, b"\nexpected: ");
-    case::show_window(line, len, number);
+    io::print_decimal(STDOUT, number);
+    io::write_all(STDOUT, b"\nexpected: ");
+    case::show_window(rt, line, len, number);
     tell_given(found);
     Windows::Differ
 }
