@@ -1,7 +1,7 @@
 -- A LINE'S FIELDS: the parts between separators, and what a line of four fields says.
 use Rattle.std.specs.Prelude.{cond, List, [], ◌∷◌, ◌++◌, ℕ, suc, eqb, take, drop}
+use Rattle.std.specs.List.{position_or_len}
 use Prim.Native.Char.{code}
-use Rattle.bytes.specs.Bytes.{index_of}
 
 -- Bytes in front of the first part.
 unfoldable pub onto_first : List ℕ → List (List ℕ) → List (List ℕ)
@@ -16,6 +16,10 @@ split separator (x ∷ rest) = cond (eqb x separator) ([] ∷ split separator re
 -- The fields of a line, between its commas.
 abbrev pub fields_of : List ℕ → List (List ℕ)
 fields_of line = split (code ",") line
+
+-- The place of the first x; the length if there is none.
+abbrev pub index_of : ℕ → List ℕ → ℕ
+index_of x bytes = position_or_len (λ y. eqb y x) bytes
 
 -- The bytes before a line's first comma, and those after it. (What two functions of the code answer; no definition uses these.)
 unfoldable pub first_field : List ℕ → List ℕ

@@ -1,15 +1,14 @@
 -- Fields counted byte by byte, and taken off a line one after another.
-use Rattle.std.specs.Prelude.{◌≡◌, refl, cond, get_or, take, drop}
+use Rattle.std.specs.Prelude.{◌≡◌, refl, cond, get_or, take, drop, slice_range}
 use Rattle.std.proofs.Math.Path.{sym, ap}
-use Rattle.std.proofs.Common.{◌∙◌, add-one, drop-cons, take_all}
+use Rattle.std.proofs.Common.{◌∙◌, add-one, one-add, drop-cons, take_all}
 use mathlib.Core.List.{List, [], ◌∷◌, ◌++◌, append_assoc}
 use Prim.Native.Nat.{ℕ, suc, ◌+◌, ◌-◌, ◌≤◌, ◌<◌}
 use native.Mathlib.Omega.{arith}
 use Rattle.std.proofs.Math.ListN.{length, drop_of_length-le}
 use borrow.Author.Tests.{eq-eqb, ne_eqb}
 use Rattle.base.specs.Branch.{by_eqb, is?}
-use Rattle.bytes.specs.Bytes.{slice, index_of, index_after}
-use Rattle.console_text.specs.Fields.{onto_first, split, first_field, after_field, four}
+use Rattle.console_text.specs.Fields.{index_of, onto_first, split, first_field, after_field, four}
 use Rattle.console_text.specs.DecimalLaws.{tail_part}
 
 -- ---- parts
@@ -84,11 +83,11 @@ module _ {line : List ℕ} {i n : ℕ} (c : Counted line i n) where
 
 -- A line with a comma is its first field and the fields after it, and one without is a field.
 split_first : (line : List ℕ) → 1 < length (split 44 line) → split 44 line ≡ first_field line ∷ split 44 (after_field line)
-unfolding split onto_first first_field after_field index_of index_after
+unfolding split onto_first first_field after_field
 split_first [] h = absurd (omega arith)
 split_first (x ∷ rest) h = is? x 44 (λ e. rw (eq-eqb x 44 e))
     (λ n. let l : 1 < length (onto_first (x ∷ []) (split 44 rest)) = rw (ne_eqb x 44 n) at h in
-    rw (ne_eqb x 44 n, split_first rest (omega (arith, onto_length (x ∷ []) (split 44 rest) (split_some 44 rest)))))
+    rw (ne_eqb x 44 n, one-add (index_of 44 rest), split_first rest (omega (arith, onto_length (x ∷ []) (split 44 rest) (split_some 44 rest)))))
 
 split_one : (line : List ℕ) → length (split 44 line) ≡ 1 → split 44 line ≡ line ∷ []
 unfolding split onto_first
@@ -99,10 +98,11 @@ split_one (x ∷ rest) h = is? x 44
     rw (ne_eqb x 44 n, split_one rest (omega (arith, onto_length (x ∷ []) (split 44 rest) (split_some 44 rest)))))
 
 -- Where the first comma was looked for in the whole line.
-module _ (line : List ℕ) {r : ℕ} (e : r ≡ 0 + index_of 44 (slice 0 (length line) line)) where
+module _ (line : List ℕ) {r : ℕ} (e : r ≡ 0 + index_of 44 (slice_range line 0 (length line))) where
   at_comma : r ≡ index_of 44 line
-  unfolding slice
-  at_comma = let f : r ≡ 0 + index_of 44 line = rw (take_all (length line) line (omega arith)) at e in omega arith
+  at_comma =
+      let z : length line - 0 ≡ length line = omega arith in
+      let f : r ≡ 0 + index_of 44 line = rw (z, take_all (length line) line (omega arith)) at e in omega arith
 
   pub first_is : take r line ≡ first_field line
   unfolding first_field

@@ -32,7 +32,7 @@ latest_one x (y ∷ l) r = latest_one (cond (is_later y x) y x) l r
 -- it is one of them
 latest_has : (P : PlacedRecord → Type 0) {x : PlacedRecord} {l : List PlacedRecord} → P x → All P l → P (latest_from x l)
 latest_has P p nil = p
-latest_has P {x} p (cons {x = y} q a) = latest_has P (cond_all P (is_later y x) (λ e. q) (λ e. p)) a
+latest_has P {x} p (cons {x = y} q a) = latest_has P {x = cond (is_later y x) y x} (cond_all P (is_later y x) (λ e. q) (λ e. p)) a
 
 module _ {s : Settings} {R : Reader} {most : ℕ} where
   -- what is known of the latest
