@@ -134,15 +134,15 @@ module _ {A : Type 0} (bad : A) (says : List ℕ → List ℕ → List ℕ → L
   says_bad h = sym (four_not bad says (split 44 line) (λ f. h (e ∙ f)))
 
   -- The fields as they are taken off the line.
-  pub says_four : {first second third fourth from_Second from-third : List ℕ} {r : A} → n ≡ 4
-      → from_Second ≡ after_field line → from-third ≡ after_field from_Second
-      → first ≡ first_field line → second ≡ first_field from_Second → third ≡ first_field from-third → fourth ≡ after_field from-third
+  pub says_four : {first second third fourth from-second from-third : List ℕ} {r : A} → n ≡ 4
+      → from-second ≡ after_field line → from-third ≡ after_field from-second
+      → first ≡ first_field line → second ≡ first_field from-second → third ≡ first_field from-third → fourth ≡ after_field from-third
       → r ≡ says first second third fourth → r ≡ four bad says (split 44 line)
   unfolding four
-  says_four {fourth} {from_Second} {from-third} h f g p q s t u =
-      let a : split 44 line ≡ first_field line ∷ split 44 from_Second = rw f (split_first line (omega arith)) in
-      let b : split 44 from_Second ≡ first_field from_Second ∷ split 44 from-third =
-      rw g (split_first from_Second (omega (arith, ap length a))) in
+  says_four {fourth} {from-second} {from-third} h f g p q s t u =
+      let a : split 44 line ≡ first_field line ∷ split 44 from-second = rw f (split_first line (omega arith)) in
+      let b : split 44 from-second ≡ first_field from-second ∷ split 44 from-third =
+      rw g (split_first from-second (omega (arith, ap length a))) in
       let c : split 44 from-third ≡ first_field from-third ∷ split 44 fourth =
       rw t (split_first from-third (omega (arith, ap length a, ap length b))) in
       let d = split_one fourth (omega (arith, ap length a, ap length b, ap length c)) in

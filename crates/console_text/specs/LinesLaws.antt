@@ -9,7 +9,6 @@ use Rattle.std.proofs.Math.ListN.{length, take, length-set}
 use borrow.Author.Tests.{eq-eqb, ne_eqb, le-leb, lt-leb}
 use Rattle.base.specs.Branch.{is?, lt?}
 use Rattle.console_text.specs.declared.gather.Gather.{Gather}
-use Rattle.console_text.specs.declared.gather.Fed.{Fed}
 use Rattle.console_text.specs.declared.gather.Fed.TheVariants.{More, LineEnd}
 use Rattle.console_text.specs.Fields.{onto_first, split}
 use Rattle.console_text.specs.FieldsLaws.{split_some, onto_none, onto_onto}

@@ -1,7 +1,6 @@
 // An input line read: a names line, the settings, or a change. Any other line is Bad.
 ghost use Rattle.std.specs.Prelude.{◌≡◌, true, ◌≤◌, length};
 ghost use Rattle.console_text.specs.Input.{settings_names, change_names, sign_of, number_in, numbers_of, numbers_in, settings_line, by_sign, change_line};
-ghost use Prim.Native.Char.{code};
 ghost use Rattle.console_text.specs.Fields.{fields_of, index_of, first_field, after_field};
 
 use crate::decimal;
@@ -88,7 +87,7 @@ fn field_count(line: &[u8]) -> usize
 // Where the first comma is; the line's length if there is none.
 fn find_comma(line: &[u8]) -> usize
     ensures bound { result ≤ length line.now }
-    ensures value { result ≡ index_of (code ",") line.now }
+    ensures value { result ≡ index_of 44 line.now }
 {
     for (i, &byte) in line.iter().enumerate() {
         if byte == COMMA {
