@@ -1,0 +1,15 @@
+-- `print_said` meets its contract: the lines are handed on in order. It ends: they are counted.
+use Prim.Native.Nat.{◌-◌}
+use borrow.Author.Rules.{rules}
+use Rattle.console_run.specs.Console.{said_lines}
+use Rattle.console_io.specs.SinkLaws.{SentTo, sent_none, said_next, said_whole}
+use Rattle.console_io.proofs.print_said.Goals as goal
+
+pub loop-i-init : goal.loop-i-init
+loop-i-init c = sent_none _ _
+
+pub loop-i-preserved : goal.loop-i-preserved
+loop-i-preserved c = said_next _ _ _ c.line_count-count.ensures c.loop-i.invariant c.loop-i-test.true c.print_one-next.ensures
+
+pub returns : goal.returns
+returns c = said_whole _ _ _ c.line_count-count.ensures c.loop-i.invariant c.loop-i-test.false

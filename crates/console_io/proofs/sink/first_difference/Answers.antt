@@ -1,0 +1,19 @@
+-- `sink::first_difference` meets its contract, sink by sink.
+use Rattle.console_io.specs.SinkLaws.{differs_unasked, differs_whole, differs_short, differs_found, differs_uncompared}
+use borrow.Author.Rules.{rules}
+use Rattle.console_io.proofs.sink.first_difference.Goals as goal
+
+pub returns-in-Write : goal.returns-in-Write
+returns-in-Write c = differs_unasked c.in-Write.is
+
+pub returns-in-Byte : goal.returns-in-Byte
+returns-in-Byte c = differs_short c.in-Compare.is c.next_number.ensures
+
+pub returns-in-End : goal.returns-in-End
+returns-in-End c = differs_whole c.in-Compare.is
+
+pub returns-in-Differs : goal.returns-in-Differs
+returns-in-Differs c = differs_found c.in-Differs.is
+
+pub returns-in-Pick : goal.returns-in-Pick
+returns-in-Pick c = differs_uncompared c.in-Pick.is
