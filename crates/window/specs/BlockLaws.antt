@@ -65,7 +65,7 @@ module _ (first last : ℕ) (s : Settings) (R : Reader) where
     places_all : 1 ≤ n → (n - 1) * s.block + s.block ≡ n * s.block
     places_all h = let e : n - 1 + 1 ≡ n = omega arith in let f = add-mul (n - 1) 1 s.block in omega (arith, ap (λ (x : ℕ). x * s.block) e)
 
-    module _ (h : 1 ≤ n) {block : List ℕ} (is_Block : block ≡ R.block n) {b : Bool} (test : b ≡ is_read first last block) where
+    module _ (h : 1 ≤ n) {block : List ℕ} (is-block : block ≡ R.block n) {b : Bool} (test : b ≡ is_read first last block) where
       abbrev After : Bool → List ℕ → Type 0
       After = NotesBlocks first last s R n
 
@@ -73,12 +73,12 @@ module _ (first last : ℕ) (s : Settings) (R : Reader) where
       pub block_passed : b ≡ false → {best : List ℕ} → NotedBlocks first last s R (n - 1) best
           → After true best
       block_passed e {best} so_far =
-          let d : is_read first last (R.block n) ≡ false = rw is_Block at (sym test ∙ e) in
+          let d : is_read first last (R.block n) ≡ false = rw is-block at (sym test ∙ e) in
           noted {best = best} (rw (block_none d h) (noted_wider (omega (arith, places_all h)) so_far))
 
       module _ (e : b ≡ true) where
         read_is : is_read first last (R.block n) ≡ true
-        read_is = rw is_Block at (sym test ∙ e)
+        read_is = rw is-block at (sym test ∙ e)
 
         -- after its last slot
         pub block_noted : {k : ℕ} {best : List ℕ} → k ≡ s.block → NotedTo first last s R n k best → After true best

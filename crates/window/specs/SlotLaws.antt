@@ -52,11 +52,11 @@ module _ (s : Settings) (R : Reader) (p place from : ℕ) where
   unfolding later_place
   none_yet e = rw (eq-eqb p 0 e)
 
-  module _ {n k : ℕ} {block : List ℕ} {w : ℕ} (some : p ≡ 0 → ⊥) (is-n : n ≡ block_of s p) (is_Block : block ≡ R.block n)
+  module _ {n k : ℕ} {block : List ℕ} {w : ℕ} (some : p ≡ 0 → ⊥) (is-n : n ≡ block_of s p) (is-block : block ≡ R.block n)
       (is-k : k ≡ slot_of s p) (is-w : w ≡ slot_word block k from_word) where
     word_at : w ≡ (record_at s R p).from
     unfolding record_at
-    word_at = is-w ∙ rw (is_Block, is-k, is-n)
+    word_at = is-w ∙ rw (is-block, is-k, is-n)
 
     pub as_late : w ≤ from → place ≡ later_place s R p place from
     unfolding later_place
@@ -87,7 +87,7 @@ module _ (first last : ℕ) (s : Settings) (R : Reader) (n k : ℕ) where
       → stood first last (records_to first last s R n (k + 1)) ≡ stood first last (records_to first last s R n k)
   stood_same e = ap (stood first last) records_more ∙ those_less (stood_in first last) (records_to first last s R n k) e
 
-  module _ {best : List ℕ} (so_far : NotedTo first last s R n k best) {block : List ℕ} (is_Block : block ≡ R.block n)
+  module _ {best : List ℕ} (so_far : NotedTo first last s R n k best) {block : List ℕ} (is-block : block ≡ R.block n)
       {b : Bool} (test : (s : Settings) (n : ℕ) → b ≡ stood_in first last (record_in s n block k)) where
     abbrev After : Bool → List ℕ → Type 0
     After = NotesTo first last s R n (k + 1)
@@ -95,23 +95,23 @@ module _ (first last : ℕ) (s : Settings) (R : Reader) (n k : ℕ) where
     -- it did not stand,
     pub slot_passed : b ≡ false → After true best
     slot_passed e =
-        let d : stood_in first last here ≡ false = rw is_Block at (sym (test s n) ∙ e) in
+        let d : stood_in first last here ≡ false = rw is-block at (sym (test s n) ∙ e) in
         noted {best = best} (rw (stood_same d) (noted_wider (omega arith) so_far))
 
     module _ (e : b ≡ true) {tag : ℕ} (is-tag : tag ≡ slot_word block k tag_word) where
       -- it stood with a tag of D or more,
       pub slot_unknown : s.tags ≤ tag → After false best
       slot_unknown h =
-          let d : stood_in first last here ≡ true = rw is_Block at (sym (test s n) ∙ e) in
-          let i : tag ≡ slot_word (R.block n) k tag_word = rw is_Block at is-tag in
+          let d : stood_in first last here ≡ true = rw is-block at (sym (test s n) ∙ e) in
+          let i : tag ≡ slot_word (R.block n) k tag_word = rw is-block at is-tag in
           unknown (rw (stood_more d) (unknown_last s.tags (stood first last (records_to first last s R n k)) here (rw i at h)))
 
       -- and it is noted.
       pub slot_noted : Spot s n k → tag < s.tags → s.tags ≤ 4096 → {from place x : ℕ}
           → from ≡ slot_word block k from_word → place ≡ place_of s n k → x ≡ later_place s R (get_or best tag 0) place from → After true (set best tag x)
       slot_noted spot h few {from} {place} {x} is-from is-place later =
-          let d : stood_in first last here ≡ true = rw is_Block at (sym (test s n) ∙ e) in
-          let i : tag ≡ slot_word (R.block n) k tag_word = rw is_Block at is-tag in
-          let f : from ≡ slot_word (R.block n) k from_word = rw is_Block at is-from in
+          let d : stood_in first last here ≡ true = rw is-block at (sym (test s n) ∙ e) in
+          let i : tag ≡ slot_word (R.block n) k tag_word = rw is-block at is-tag in
+          let f : from ≡ slot_word (R.block n) k from_word = rw is-block at is-from in
           noted {best = set best tag x} (rw (stood_more d)
           (noted_more so_far here (slot_met R spot) (omega arith) (rw i at h) few i (rw (is-place, f) at later)))
