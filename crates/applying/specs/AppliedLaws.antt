@@ -12,7 +12,7 @@ use Rattle.timeslice.specs.Answer.{Says, view, number, LookedBack}
 use Rattle.applying.specs.declared.call.Call.{Call}
 use Rattle.applying.specs.declared.call.Call.TheVariants.{LookBack}
 use Rattle.applying.specs.declared.call.Answer.{Answer}
-use Rattle.applying.specs.declared.call.Answer.TheVariants.{Done, Shown, Refused}
+use Rattle.applying.specs.declared.call.Answer.TheVariants.{Shown}
 use Rattle.applying.specs.Applied.{answer_of, call_of, buffers_after, change_answer, slice_answer, Applied}
 
 change-answer : (c : Change) → change_answer c ≡ answer_of (replied.answer_of c)

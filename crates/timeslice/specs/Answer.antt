@@ -1,5 +1,5 @@
 -- WHAT A LOOK-BACK ANSWERS IN CODE, and the words that it leaves: those of the definition (calls, `look_back`), on any words and any two buffers.
-use Rattle.std.specs.Prelude.{◌≡◌, List, [], ◌∷◌, ℕ, ◌*◌, ◌≤◌, get_or}
+use Rattle.std.specs.Prelude.{◌≡◌, List, ℕ, ◌*◌, ◌≤◌, get_or}
 use Rattle.layout.specs.declared.head.Head.{Head}
 use Rattle.layout.specs.Sizes.{OPEN, row_len}
 use Rattle.calls.specs.Calls.{Row, View, Answer, Shown, Refused as RefusedBy}

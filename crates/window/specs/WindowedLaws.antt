@@ -1,5 +1,5 @@
 -- The whole window's answers: the refusals in their order, and what the records that are read come to.
-use Rattle.std.specs.Prelude.{◌≡◌, refl, ◌≢◌, Bool, true, false, cond, ◌||◌, ℕ, ◌≤◌, eqb, length, get_or}
+use Rattle.std.specs.Prelude.{◌≡◌, ◌≢◌, Bool, true, false, cond, ◌||◌, ℕ, ◌≤◌, eqb, length, get_or}
 use Rattle.std.proofs.Common.{ap, ◌∙◌, arith}
 use mathlib.Core.List.{List, [], ◌∷◌, map}
 use Rattle.base.specs.Branch.{or-false}
