@@ -1,11 +1,12 @@
 -- Fields counted byte by byte, and taken off a line one after another.
-use Rattle.std.specs.Prelude.{◌≡◌, refl, cond, get_or, take, drop, slice_range}
+use Rattle.std.specs.Prelude.{◌≡◌, refl, cond, get_or, take, drop}
 use Rattle.std.proofs.Math.Path.{sym, ap}
 use Rattle.std.proofs.Common.{◌∙◌, add-one, one-add, drop-cons, take_all}
 use mathlib.Core.List.{List, [], ◌∷◌, ◌++◌, append_assoc}
 use Prim.Native.Nat.{ℕ, suc, ◌+◌, ◌-◌, ◌≤◌, ◌<◌}
 use native.Mathlib.Omega.{arith}
 use Rattle.std.proofs.Math.ListN.{length, drop_of_length-le}
+use Rattle.std.proofs.Math.Seq.{slice}
 use borrow.Author.Tests.{eq-eqb, ne_eqb}
 use Rattle.base.specs.Branch.{by_eqb, is?}
 use Rattle.console_text.specs.Fields.{index_of, onto_first, split, first_field, after_field, four}
@@ -98,11 +99,9 @@ split_one (x ∷ rest) h = is? x 44
     rw (ne_eqb x 44 n, split_one rest (omega (arith, onto_length (x ∷ []) (split 44 rest) (split_some 44 rest)))))
 
 -- Where the first comma was looked for in the whole line.
-module _ (line : List ℕ) {r : ℕ} (e : r ≡ 0 + index_of 44 (slice_range line 0 (length line))) where
+module _ (line : List ℕ) {r : ℕ} (e : r ≡ 0 + index_of 44 (slice 0 (length line) line)) where
   at_comma : r ≡ index_of 44 line
-  at_comma =
-      let z : length line - 0 ≡ length line = omega arith in
-      let f : r ≡ 0 + index_of 44 line = rw (z, take_all (length line) line (omega arith)) at e in omega arith
+  at_comma = let f : r ≡ 0 + index_of 44 line = rw (take_all (length line) line (omega arith)) at e in omega arith
 
   pub first_is : take r line ≡ first_field line
   unfolding first_field
