@@ -100,14 +100,14 @@ module _ (b t : ℕ) (R : Reader) where
   visits (stop {lo} {hi} {n} p q c) (suc fuel) h =
       simp (ne_eqb n 0 (omega arith), lt-leb n lo p, lt-leb hi n q, le-leb _ t c)
   visits (deep {lo} {hi} {n} p q c v w) (suc fuel) h =
-      simp (ne_eqb n 0 (omega arith), lt-leb n lo p, lt-leb hi n q, lt-leb _ t c, visits v fuel (omega arith), visits w fuel (omega arith))
+      simp (ne_eqb n 0 (omega arith), lt-leb n lo p, lt-leb hi n q, lt-leb _ t c, visits {lo = n} v fuel (omega arith), visits w fuel (omega arith))
 
   pub paths : {n : ℕ} {r : List Row} {l : List ℕ} → Path n r l → (fuel : ℕ) → n < fuel → path b t R fuel n ≡ found r l
   unfolding path
   paths p zero h = absurd (omega arith)
   paths top (suc fuel) h = refl
   paths (step {n} q v p) (suc fuel) h =
-      simp (ne_eqb n 0 (omega arith), lt-leb n _ q, visits v (suc n) (omega arith), paths p fuel (omega arith))
+      simp (ne_eqb n 0 (omega arith), lt-leb n _ q, visits v (suc n) (omega arith), paths {n = up_of R n} p fuel (omega arith))
 
 -- ---- the search
 passing_outcome : {P Q : ℕ → List Pass → Type 0} (p : Pass) {x : Finding ℕ (List Pass)}

@@ -36,6 +36,7 @@ use Rattle.theory.specs.ReadRecords.{ReadAt, read_at, at_read}
 
 -- a tag of a row is among the rows
 pub member_among : (tag : ℕ) {r : Row} (l : List Row) → Memᴰ r l → r.tag ≡ tag → among tag l ≡ true
+member_among tag {r = r} [] i q = elim i [ ]
 member_among tag (x ∷ l) (Memᴰ.head e) q = rw (eq-eqb x.tag tag (ap (λ (y : Row). y.tag) (sym e) ∙ q))
 member_among tag (x ∷ l) (Memᴰ.tail i) q = by_test (eqb x.tag tag) (λ b. (b || among tag l) ≡ true) (λ e. refl) (λ e. member_among tag l i q)
 

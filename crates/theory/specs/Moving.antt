@@ -36,7 +36,7 @@ at_least_map h (another {k = k} a o u) = another a (h k o) (at_least_map h u)
 at_least_listed : {p : ℕ → Type 0} {lo hi : ℕ} {l : List ℕ} (m : ℕ) → Lists p lo hi l → m ≤ length l → AtLeast p lo m
 at_least_listed zero u h = enough
 at_least_listed (suc m) (none g) h = absurd (omega arith)
-at_least_listed (suc m) (more a c o g r) h = another a o (at_least_listed m r (le_of_suc-le-suc h))
+at_least_listed {lo = lo} (suc m) (more {k = k} a c o g r) h = another a o (at_least_listed {lo = k + 1} m r (le_of_suc-le-suc h))
 
 -- but for block x from second `from` on; x is 0 where there is no such block
 pub record Useful (s : Settings) (x from : ℕ) (S : Shape) : Type 0 where

@@ -35,6 +35,7 @@ refused (x ∷ l) k = let a = and-true (ltb 0 x.number) (numbered l) k in more (
 pub clash : {l : List Test} {n : ℕ} → All (λ x. x.applies ≡ false) l → First l n → ⊥
 clash (cons e a) (here f) = let z : ◌≡◌ {A = ℕ} 0 1 = cc in omega arith
 clash (cons e a) (later f r) = clash a r
+clash {n = n} nil x = elim x [ ]
 
 -- ---- two tables that decide alike: the second has the tests of the first, but for some that never apply. A later test need only be alike where the ones
 -- before it do not apply.
@@ -61,6 +62,7 @@ alike_first (both {x} {y} {l} {m} n e r) (here f) = subst (λ (k : ℕ). First (
 alike_first (both n e r) (later f q) = let g = sym e ∙ f in later g (alike_first (r g) q)
 alike_first (idle e r) (here f) = no f e
 alike_first (idle e r) (later f q) = alike_first r q
+alike_first {n = n} same q = elim q [ ]
 
 -- a number that no test has that may apply is not the first
 abbrev pub lacks : ℕ → List Test → Bool
