@@ -4,7 +4,7 @@ use Rattle.std.specs.Prelude.{Bool, false, cond, not, ◌&&◌, ◌||◌, List, 
 use Rattle.layout.specs.declared.settings.Settings.{Settings}
 use Rattle.layout.specs.declared.head.Head.{Head}
 use Rattle.layout.specs.declared.standing.Standing.{Standing}
-use Rattle.layout.specs.declared.address.Address.TheVariants.{Dir, Field, Bits, Slot}
+use Rattle.layout.specs.declared.address.Address.TheVariants.{Dir, Field, Slot}
 use Rattle.layout.specs.Sizes.{OPEN, head_len, row_len, layout_len}
 use Rattle.layout.specs.Fields.{up_word, right_word, tag_word}
 use Rattle.layout.specs.Memory.{Memory}

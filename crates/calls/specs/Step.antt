@@ -2,7 +2,6 @@
 use Rattle.std.specs.Prelude.{cond, List, [], ◌∷◌, ℕ, eqb, length}
 use Rattle.layout.specs.declared.settings.Settings.{Settings}
 use Rattle.layout.specs.declared.head.Cursor.{Cursor}
-use Rattle.layout.specs.declared.head.Head.{Head}
 use Rattle.layout.specs.Memory.{Memory}
 use Rattle.layout.specs.Program.{Prog, run}
 use Rattle.layout.specs.Head.{fresh_head, head_of, with_head, cleared}

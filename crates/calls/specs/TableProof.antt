@@ -1,5 +1,5 @@
 -- The proved table holds: each row is computed on the words.
-use Rattle.std.specs.Prelude.{◌≡◌, refl, true, List, [], ◌∷◌, ◌++◌, ℕ, suc, ◌+◌, ◌*◌, ◌-◌, ◌≤◌, replicate}
+use Rattle.std.specs.Prelude.{◌≡◌, refl, true, List, ◌∷◌, ◌++◌, ℕ, suc, ◌+◌, ◌*◌, ◌-◌, ◌≤◌, replicate}
 use Rattle.std.proofs.Common.{ap, ◌∙◌, arith, lit≤, ne_eqb}
 use Rattle.layout.specs.declared.address.Address.TheVariants.{Field}
 use Rattle.layout.specs.Sizes.{OPEN}
