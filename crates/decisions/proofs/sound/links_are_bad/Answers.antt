@@ -1,0 +1,24 @@
+-- `sound::links_are_bad` meets its contract.
+use mathlib.Core.Path.{refl, sym, ◌∙◌}
+use borrow.Author.Tests.{le-leb, lt-leb, lt-ltb, le-ltb, eq-eqb, ne_eqb}
+use Rattle.decisions.specs.SoundLaws.{bad-links, not_leb}
+use Rattle.decisions.proofs.sound.links_are_bad.Goals as goal
+
+pub returns-then-n-read : goal.returns-then-n-read
+returns-then-n-read c = sym (bad-links _ _ _ c.read.ensures.value refl (le-leb _ _ c.if-n-read.true) refl refl refl)
+
+pub returns-then-n-h : goal.returns-then-n-h
+returns-then-n-h c =
+    sym (bad-links _ _ _ c.read.ensures.value refl (lt-leb _ _ c.if-n-read.false)
+    (eq-eqb _ _ c.if-n-h.true) refl refl)
+
+pub returns-then-right-n : goal.returns-then-right-n
+returns-then-right-n c =
+    sym (bad-links _ _ _ c.read.ensures.value c.read-right.ensures.value
+    (lt-leb _ _ c.if-n-read.false) (ne_eqb _ _ c.if-n-h.false) (le-ltb _ _ c.if-right-n.true) refl)
+
+pub returns : goal.returns
+returns c = not_leb c.read-right.result c.args.h.cursor.opened
+    ∙ sym (bad-links _ _ _ c.read.ensures.value c.read-right.ensures.value
+    (lt-leb _ _ c.if-n-read.false) (ne_eqb _ _ c.if-n-h.false)
+    (lt-ltb _ _ c.if-right-n.false) refl)

@@ -1,0 +1,45 @@
+-- `moves::judge_full` meets its contract: with fewer than q standing the block is unlinked, and its records go on.
+use mathlib.Core.Path.{refl, sym, ◌∙◌}
+use Rattle.layout.specs.Able.{able_first, able_next}
+use Rattle.layout.specs.Ran.{ran_length}
+use Rattle.layout.specs.Moved.{stays, after, onto, if_passed}
+use Rattle.calls.specs.Placing.{judge_full, close_full}
+use Rattle.placing.proofs.AbleLaws.{asks_standing, ran_standing, able_few, if_few}
+use Rattle.placing.proofs.moves.judge_full.Goals as goal
+
+pub standing-bits-requires : goal.standing-bits-requires
+unfolding judge_full
+standing-bits-requires c = let all = asks_standing c.requires in record { numbered = all.0; held = all.1 }
+
+pub unlink-unlinked-requires : goal.unlink-unlinked-requires
+unfolding judge_full close_full
+unlink-unlinked-requires c =
+    able_first (able_few _ c.requires
+    c.standing-bits.ensures c.too_few.ensures c.if-too_few.true)
+
+pub move_all-requires : goal.move_all-requires
+unfolding judge_full close_full
+move_all-requires c =
+    let m = c.unlink-unlinked.ensures in
+    rw m.settings (able_next (able_few _ c.requires
+    c.standing-bits.ensures c.too_few.ensures c.if-too_few.true) m.ran)
+
+pub returns-then-too_few : goal.returns-then-too_few
+unfolding judge_full close_full
+returns-then-too_few c =
+    let m = c.unlink-unlinked.ensures in
+    if_few _ c.requires c.standing-bits.ensures
+    c.too_few.ensures c.if-too_few.true
+    (onto m (rw m.settings at c.move_all.ensures))
+
+pub shape_of-store-then-too_few : goal.shape_of-store-then-too_few
+shape_of-store-then-too_few c = ran_length (returns-then-too_few c).ran
+
+pub returns : goal.returns
+unfolding judge_full
+returns c =
+    let r = ran_standing _ c.requires c.standing-bits.ensures in
+    after r (if_passed (sym c.too_few.ensures ∙ c.if-too_few.false) (stays refl r.good))
+
+pub shape_of-store : goal.shape_of-store
+shape_of-store c = ran_length (returns c).ran
