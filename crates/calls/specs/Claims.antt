@@ -71,12 +71,12 @@ abbrev pub AllBut13 : List Test → Type 0
 AllBut13 l = All (λ x. x.number ≢ OUT_OF_BLOCKS → x.applies ≡ false) l
 
 -- with so many incoming records, and with the blocks that will close
-pub record Foretold (h : Head) (f : Memory) (now incoming : ℕ) (willClose : ℕ → Bool) (left : Cursor × Memory) : Type 0 where
+pub record Foretold (h : Head) (f : Memory) (now incoming : ℕ) (will_close : ℕ → Bool) (left : Cursor × Memory) : Type 0 where
   -- N + 1 blocks exactly if one opens
   pub blocks : left.0.opened ≡ cond (opens h incoming) (h.cursor.opened + 1) h.cursor.opened
   -- the closed word of each block that was there
   pub closed : (n : ℕ) → 1 ≤ n → n ≤ h.cursor.opened
-      → left.1 (Field n closed_word) ≡ cond (willClose n) now (f (Field n closed_word))
+      → left.1 (Field n closed_word) ≡ cond (will_close n) now (f (Field n closed_word))
   -- and of the new one
   pub new : opens h incoming ≡ true → left.1 (Field (h.cursor.opened + 1) closed_word) ≡ OPEN
 

@@ -1,7 +1,7 @@
 -- The edges of a window and its table hold: each is computed on the words.
 use Rattle.std.specs.Prelude.{refl}
 use Rattle.calls.specs.Opened.{open_tests, open_programs, open_window}
-use Rattle.calls.specs.Table.{fresh as printedFresh}
+use Rattle.calls.specs.Table.{fresh as printed_fresh}
 use Rattle.calls.specs.TableProof.{eight, on_eight}
 use Rattle.edges.specs.EdgesStores.{fresh, three}
 use Rattle.edges.specs.EdgesWindow.{crosses, RangeEdges, ReadEdges, StoodEdges, UnknownEdges}
@@ -73,5 +73,5 @@ window_table = record {
 }
 
 pub latest_table : LatestTable
-unfolding printedFresh open_tests open_programs open_window
+unfolding printed_fresh open_tests open_programs open_window
 latest_table = record { before = refl; new_reading = refl; gone = refl; again = refl; brief = refl }

@@ -1,5 +1,5 @@
 -- THE EDGES OF WHAT IS WRITTEN: words that no answer after an honest history tells of, so that no other claim pins them.
-use Rattle.std.specs.Prelude.{◌≡◌, List, [], ◌∷◌, ◌++◌, ℕ, drop, take, replicate}
+use Rattle.std.specs.Prelude.{◌≡◌, List, [], ◌∷◌, ℕ, drop, take, replicate}
 use Rattle.layout.specs.declared.address.Address.TheVariants.{Bits, Field, Slot}
 use Rattle.layout.specs.Sizes.{OPEN, head_len}
 use Rattle.layout.specs.Fields.{left_word, child_word, right_word, reading_word, since_word}

@@ -1,5 +1,5 @@
 -- THE PROVED TABLE OF WINDOWS (document 02, request 2) over document 01's printed case, beside the proved table of calls: closed computations.
-use Rattle.std.specs.Prelude.{◌≡◌, [], ◌∷◌, ◌++◌, replicate}
+use Rattle.std.specs.Prelude.{◌≡◌, [], ◌∷◌, replicate}
 use Rattle.calls.specs.Calls.{Set, Clear, Update, Numbers}
 use Rattle.calls.specs.History.{words_after}
 use Rattle.calls.specs.Table.{row, after8}

@@ -21,7 +21,7 @@ use Rattle.timeslice.specs.declared.SliceAnswer.TheVariants as slice
 use Rattle.timeslice.specs.Answer.{Says, view, number, LookedBack}
 use Rattle.window.specs.declared.WindowAnswer.{WindowAnswer}
 use Rattle.window.specs.declared.WindowAnswer.TheVariants as window
-use Rattle.window.specs.Windowed.{Windowed, answer_of as windowAnswer}
+use Rattle.window.specs.Windowed.{Windowed, answer_of as window_answer}
 use Rattle.register.specs.Exports.{number_of, six_words, six_after, numbers_after, Exported, ExportedLookBack, ExportedQuery, words_for}
 
 -- ---- a start, change or clock move
@@ -76,13 +76,13 @@ module _ {ws rows list rows' list' : List ℕ} {t : ℕ} {l : SliceAnswer} (b : 
 module _ {ws rows rows' : List ℕ} {first last : ℕ} {w : WindowAnswer} (b : Windowed ws first last rows w rows') (answer : List ℕ) where
   pub refused_window : {n : ℕ} → w ≡ window.Refused n → ExportedQuery ws (Window first last rows) answer n (rows' ∷ []) answer
   refused_window {n} e =
-      let is : Refused n ≡ (step ws (Ask (Window first last rows))).answer = ap windowAnswer (sym e) ∙ b.answer in
+      let is : Refused n ≡ (step ws (Ask (Window first last rows))).answer = ap window_answer (sym e) ∙ b.answer in
       record { number = ap number_of is; buffers = b.words; answered = ap (λ (a : Answer). numbers_after a answer) is }
 
   pub answered_window : {n : ℕ} {answer' : List ℕ} → w ≡ window.Rows n → answer' ≡ sets answer 0 (n ∷ [])
       → ExportedQuery ws (Window first last rows) answer 0 (rows' ∷ []) answer'
   answered_window {n} e f =
-      let is : Numbers (n ∷ []) ≡ (step ws (Ask (Window first last rows))).answer = ap windowAnswer (sym e) ∙ b.answer in
+      let is : Numbers (n ∷ []) ≡ (step ws (Ask (Window first last rows))).answer = ap window_answer (sym e) ∙ b.answer in
       record { number = ap number_of is; buffers = b.words; answered = f ∙ ap (λ (a : Answer). numbers_after a answer) is }
 
 -- ---- how many words a store takes, for settings as they are asked for

@@ -32,7 +32,7 @@ use Rattle.theory.specs.LookReady.{slot_holds, reader_block}
 use Rattle.theory.specs.Honest.{Honest, head_is, block_numbered}
 use Rattle.theory.specs.Latest.{those_pass, pass_those, none_of, stood_second, second_stood, of-tag, tag_of}
 use Rattle.theory.specs.WindowRows.{row_latest, latest_row, HasRow, LatestOf}
-use Rattle.theory.specs.ReadRecords.{ReadAt, read_at, at_read}
+use Rattle.theory.specs.ReadRecords.{read_at, at_read}
 
 -- a tag of a row is among the rows
 pub member_among : (tag : ℕ) {r : Row} (l : List Row) → Memᴰ r l → r.tag ≡ tag → among tag l ≡ true

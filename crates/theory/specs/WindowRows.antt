@@ -8,7 +8,7 @@ use mathlib.Core.HLevel.{⊥_prop}
 use mathlib.Core.List.{List, [], ◌∷◌, ◌++◌, map, map-append, append-nil, Pairwise}
 use mathlib.Core.List.Memᴰ
 use mathlib.Core.List.{Memᴰ}
-use Prim.Native.Nat.{ℕ, zero, suc, ◌+◌, ◌≤◌, ◌<◌}
+use Prim.Native.Nat.{ℕ, zero, suc, ◌≤◌, ◌<◌}
 use native.Mathlib.Omega.{arith}
 use Rattle.base.specs.Branch.{lt?}
 use Rattle.base.specs.Lists.{joined}
@@ -17,7 +17,7 @@ use Rattle.calls.specs.Calls.{Row}
 use Rattle.calls.specs.Range.{PlacedRecord}
 use Rattle.calls.specs.Window.{latest_from, latest, of_tag, shown_row, window_rows}
 use Rattle.calls.specs.Claims.{Greatest}
-use Rattle.theory.specs.MemberLaws.{MemberOf, joined_members, members_joined}
+use Rattle.theory.specs.MemberLaws.{joined_members, members_joined}
 use Rattle.theory.specs.Latest.{greatest_from, of-tag}
 
 -- a number above all before it goes on ascending

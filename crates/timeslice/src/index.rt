@@ -1,7 +1,7 @@
 // The search in the index: from the top level's page down to the block that starts the path.
 ghost use Rattle.std.specs.Prelude.{◌≡◌, cond, [], ◌-◌, ◌*◌, ◌≤◌, ◌<◌, min, eqb, length};
 ghost use Rattle.layout.specs.Sizes.{page_len};
-ghost use Rattle.calls.specs.Walk.{last_up_to, entries as entries_of, top_level, look_up, descend as descendOf, search as searchOf};
+ghost use Rattle.calls.specs.Walk.{last_up_to, entries as entries_of, top_level, look_up, descend as descend_of, search as search_of};
 ghost use Rattle.calls.specs.LookBack.{reader};
 ghost use Rattle.queries.specs.Readable.{Readable};
 ghost use Rattle.timeslice.specs.Searching.{path_start, pass_over, searched_of, Level, OnPage, OnEntry};
@@ -135,7 +135,7 @@ fn look_up(store: &[u32], opened: u32, t: u32, l: u32, e: u32) -> u32
 // Below level l, from its entry e: a lower page with no entry up to t is unsound.
 fn descend(store: &[u32], opened: u32, t: u32, l: u32, e: u32) -> Searched
     requires { OnEntry store.now opened l e }
-    ensures { result ≡ searched_of (descendOf t opened (reader store.now) l e) }
+    ensures { result ≡ searched_of (descend_of t opened (reader store.now) l e) }
 {
     if l == 0 {
         return Searched::At(PathStart::at(e + 1));
@@ -154,7 +154,7 @@ fn descend(store: &[u32], opened: u32, t: u32, l: u32, e: u32) -> Searched
 // From the top page down: no page is read with N = 0, and the top page alone if it has no entry up to t.
 pub(crate) fn search(store: &[u32], h: Head, t: u32) -> Searched
     requires { Readable store.now h }
-    ensures { result ≡ searched_of (searchOf t h.cursor.opened (reader store.now)) }
+    ensures { result ≡ searched_of (search_of t h.cursor.opened (reader store.now)) }
 {
     let opened = h.cursor.opened;
     if opened == 0 {

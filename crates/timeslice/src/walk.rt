@@ -1,7 +1,7 @@
 // The walk over the blocks: a visit stays between two numbers and calls itself; the path goes up by 'up' until 0.
 ghost use Rattle.std.specs.Prelude.{◌≡◌};
 ghost use Rattle.layout.specs.Address.{Numbered};
-ghost use Rattle.calls.specs.Walk.{neighbour as neighbourOf};
+ghost use Rattle.calls.specs.Walk.{neighbour as neighbour_of};
 ghost use Rattle.calls.specs.LookBack.{reader};
 ghost use Rattle.queries.specs.Readable.{Readable, Blocks};
 ghost use Rattle.timeslice.specs.Told.{VisitTold, PathTold, Climbs, Space, Gap, Reach, Under};
@@ -175,7 +175,7 @@ fn visit_rows(
 fn neighbour(store: &[u32], h: Head, number: u32) -> u32
     requires readable { Readable store.now h }
     requires under { Under h.settings (reader store.now) number }
-    ensures { result ≡ neighbourOf (reader store.now) number }
+    ensures { result ≡ neighbour_of (reader store.now) number }
 {
     let block = parts::block(store, h.settings, number);
     if parts::block_word(block, fields::CLOSED) != layout::OPEN {
