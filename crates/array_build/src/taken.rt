@@ -51,7 +51,7 @@ pub fn take_out(store: &mut [u32], s: Settings, x: u32, second: u32, bits: Stand
     requires held { Held s store.old }
     requires numbered { Numbered s x }
     requires bits_len_bound { length (slots bits) ≤ 32 }
-    ensures held_2 { Held s store.new }
+    ensures held { Held s store.new }
     ensures count_bound { result.count ≤ 32 }
 {
     let count = bits.count();

@@ -1,16 +1,15 @@
 -- `parse::after_field` meets its contract: what follows the comma that was found.
-use Rattle.std.specs.Prelude.{slice_range}
-use Rattle.std.proofs.Common.{◌≡◌, ℕ, ◌+◌, ◌-◌, List, length, arith, take_all}
+use Rattle.std.proofs.Math.Seq.{slice}
+use Rattle.std.proofs.Common.{◌≡◌, ℕ, ◌+◌, List, length, arith, take_all}
 use Rattle.console_text.specs.Fields.{index_of}
 use Rattle.console_text.specs.FieldsLaws.{after_is, after_none}
 use Rattle.console_text.proofs.parse.after_field.Goals as goal
 
 -- The whole line is its part from the start on.
-whole : (line : List ℕ) {r : ℕ} → r ≡ index_of 44 line → r ≡ 0 + index_of 44 (slice_range line 0 (length line))
+whole : (line : List ℕ) {r : ℕ} → r ≡ index_of 44 line → r ≡ 0 + index_of 44 (slice 0 (length line) line)
 whole line {r} e =
-    let z : length line - 0 ≡ length line = omega arith in
     let f : r ≡ 0 + index_of 44 line = omega (arith, e) in
-    rw (z, take_all (length line) line (omega arith)) f
+    rw (take_all (length line) line (omega arith)) f
 
 pub returns-then-end-line : goal.returns-then-end-line
 returns-then-end-line c = after_none _ (whole c.args.line.now c.find_comma-end.ensures.value) c.if-end-line.true
