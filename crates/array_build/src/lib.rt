@@ -14,7 +14,7 @@ mod taken;
 use changes::Change;
 pub use changing::{clear, set, update};
 
-// The calls by plain numbers, for the counts of docs/BENCHMARKS.md: 0 for an accepted call, else the refusal's number.
+// The calls by plain numbers, for the counts of docs/BENCHMARKS.md (`array_build_c` exports them): 0 for an accepted call, else the refusal's number.
 fn number(c: Change) -> u32 {
     match c {
         Change::Done(_) => 0,
@@ -22,25 +22,17 @@ fn number(c: Change) -> u32 {
     }
 }
 
-#[unsafe(no_mangle)]
-pub extern "C" fn array_build_set(store: &mut [u32], second: u32, tag: u32, reading: u32) -> u32 {
+pub fn array_build_set(store: &mut [u32], second: u32, tag: u32, reading: u32) -> u32 {
     let change = set(store, second, tag, reading);
     number(change)
 }
 
-#[unsafe(no_mangle)]
-pub extern "C" fn array_build_clear(store: &mut [u32], second: u32, tag: u32) -> u32 {
+pub fn array_build_clear(store: &mut [u32], second: u32, tag: u32) -> u32 {
     let change = clear(store, second, tag);
     number(change)
 }
 
-#[unsafe(no_mangle)]
-pub extern "C" fn array_build_update(
-    store: &mut [u32],
-    second: u32,
-    tag: u32,
-    reading: u32,
-) -> u32 {
+pub fn array_build_update(store: &mut [u32], second: u32, tag: u32, reading: u32) -> u32 {
     let change = update(store, second, tag, reading);
     number(change)
 }

@@ -45,8 +45,8 @@ fn counts(number: u32) -> Played
     Played::Counts(0)
 }
 
-// One entry, by the exported calls: a change that had another caller beside its export would no longer be compiled into it. (`apply` is not
-// in the archive.)
+// One entry, by the calls that are exported: a change that had another caller beside its call by numbers would no longer be compiled into it. (`apply`
+// is not in the archive.)
 fn play(store: &mut [u32], kind: u32, a: u32, b: u32, c: u32, d: u32) -> Played
     ensures { Plays store.old (entry_of kind a b c d) result store.new }
 {

@@ -1,5 +1,6 @@
-// THE REGISTER, the public face: any of document 01's six calls as one value (apply), a store rebuilt from a journal (replay), and for callers in C
-// and Rust the six calls and the window, each proved equal to its definition (calls.specs.Step), the replay, and how many words a store takes.
+// THE REGISTER, the public face: any of document 01's six calls as one value (apply), a store rebuilt from a journal (replay), and by numbers the six
+// calls and the window, each proved equal to its definition (calls.specs.Step), the replay, and how many words a store takes. `register_c` exports
+// these last ones to C and Rust.
 #![tactic(auto)]
 
 mod journal;
@@ -30,14 +31,7 @@ fn number(c: Change) -> u32
     }
 }
 
-#[unsafe(no_mangle)]
-pub extern "C" fn register_start(
-    store: &mut [u32],
-    block: u32,
-    useful: u32,
-    blocks: u32,
-    tags: u32,
-) -> u32
+pub fn register_start(store: &mut [u32], block: u32, useful: u32, blocks: u32, tags: u32) -> u32
     ensures { Exported (step store.old (Start (settings_of block useful blocks tags))) result
         store.new }
 {
@@ -45,32 +39,28 @@ pub extern "C" fn register_start(
     number(change)
 }
 
-#[unsafe(no_mangle)]
-pub extern "C" fn register_set(store: &mut [u32], second: u32, tag: u32, reading: u32) -> u32
+pub fn register_set(store: &mut [u32], second: u32, tag: u32, reading: u32) -> u32
     ensures { Exported (step store.old (Set second tag reading)) result store.new }
 {
     let change = changes::set(store, second, tag, reading);
     number(change)
 }
 
-#[unsafe(no_mangle)]
-pub extern "C" fn register_clear(store: &mut [u32], second: u32, tag: u32) -> u32
+pub fn register_clear(store: &mut [u32], second: u32, tag: u32) -> u32
     ensures { Exported (step store.old (Clear second tag)) result store.new }
 {
     let change = changes::clear(store, second, tag);
     number(change)
 }
 
-#[unsafe(no_mangle)]
-pub extern "C" fn register_update(store: &mut [u32], second: u32, tag: u32, reading: u32) -> u32
+pub fn register_update(store: &mut [u32], second: u32, tag: u32, reading: u32) -> u32
     ensures { Exported (step store.old (Update second tag reading)) result store.new }
 {
     let change = changes::update(store, second, tag, reading);
     number(change)
 }
 
-#[unsafe(no_mangle)]
-pub extern "C" fn register_advance(store: &mut [u32], second: u32) -> u32
+pub fn register_advance(store: &mut [u32], second: u32) -> u32
     ensures { Exported (step store.old (Advance second)) result store.new }
 {
     let change = changes::advance(store, second);
@@ -89,8 +79,7 @@ fn put_six(answer: &mut [u32; 6], slice: Slice)
     answer[5] = slice.page2;
 }
 
-#[unsafe(no_mangle)]
-pub extern "C" fn register_look_back(
+pub fn register_look_back(
     store: &[u32],
     second: u32,
     rows: &mut [u32],
@@ -110,8 +99,7 @@ pub extern "C" fn register_look_back(
     }
 }
 
-#[unsafe(no_mangle)]
-pub extern "C" fn register_window(
+pub fn register_window(
     store: &[u32],
     first: u32,
     last: u32,
@@ -132,8 +120,7 @@ pub extern "C" fn register_window(
 }
 
 // The words that a store with these settings takes; 0 for settings that a start refuses.
-#[unsafe(no_mangle)]
-pub extern "C" fn register_words(block: u32, useful: u32, blocks: u32, tags: u32) -> usize
+pub fn register_words(block: u32, useful: u32, blocks: u32, tags: u32) -> usize
     ensures { result ≡ words_for (settings_of block useful blocks tags) }
 {
     let asked = Settings::asked(block, useful, blocks, tags);
@@ -144,8 +131,7 @@ pub extern "C" fn register_words(block: u32, useful: u32, blocks: u32, tags: u32
 }
 
 // A store rebuilt from a journal: the entries read, and how many of these were accepted.
-#[unsafe(no_mangle)]
-pub extern "C" fn register_replay(store: &mut [u32], journal: &[u32], answer: &mut [u64; 2])
+pub fn register_replay(store: &mut [u32], journal: &[u32], answer: &mut [u64; 2])
     ensures exported_replay { ExportedReplay store.old
         journal.now answer.old store.new answer.new }
     ensures rebuilt { Rebuilt store.old journal.now store.new }
