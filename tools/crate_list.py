@@ -11,7 +11,7 @@ def crates():
         for line in file:
             name, colon, rest = line.split('#')[0].partition(':')
             if colon:
-                uses[name.strip()] = rest.split()
+                uses[name.split()[0]] = rest.split()  # after the name may stand `staticlib`
     return {name: [d for d in deps if d in uses] for name, deps in uses.items()}
 
 

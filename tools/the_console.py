@@ -1,5 +1,5 @@
-"""Runs the proved console (target/bin/console, or the program that CONSOLE names) for the tools beside it, and says
-what its lines mean."""
+"""Runs the proved console (crates/console/out/console, or the program that CONSOLE names) for the tools beside it, and
+says what its lines mean."""
 import os
 import subprocess
 import sys
@@ -11,9 +11,9 @@ TOP = os.path.dirname(os.path.dirname(os.path.abspath(__file__)))
 
 def console(data):
     """What the console prints for these bytes; and its lines, without the first, the names line."""
-    program = os.environ.get('CONSOLE') or f'{TOP}/target/bin/console'
+    program = os.environ.get('CONSOLE') or f'{TOP}/crates/console/out/console'
     if not os.path.exists(program):
-        sys.exit(f'{program} is not there: run `rt check console` in {TOP} first')
+        sys.exit(f'{program} is not there: `rt run < stdin` in {TOP}/crates/console makes it')
     ran = subprocess.run([program], input=data, capture_output=True, check=True)
     return ran.stdout, ran.stdout.decode('ascii').split('\n')[1:-1]
 
