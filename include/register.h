@@ -33,7 +33,7 @@
  *         return 0;
  *     }
  *
- * BUILDING. `rt staticlib register` makes target/staticlib/libregister.a. Compile include/register_refusal.c with your
+ * BUILDING. `tools/archive` makes target/staticlib/libregister.a. Compile include/register_refusal.c with your
  * program (only register_refusal_text is in it) and link the archive, which needs nothing but memset:
  *
  *     cc -I include example.c include/register_refusal.c target/staticlib/libregister.a

@@ -66,7 +66,7 @@
 //! # The archive
 //!
 //! The build script takes the archive that the environment variable `REGISTER_ARCHIVE` names, else it runs
-//! `rt staticlib register` in the repository. The crate needs no standard library and no other crate.
+//! `tools/archive` of the repository. The crate needs no standard library and no other crate.
 //!
 //! # Threads
 //!
