@@ -24,7 +24,7 @@ cargo build --release --offline --quiet --package bench --features array
 program=target/release/bench
 folder=$(mktemp -d)
 trap 'rm -rf "$folder"' EXIT
-tools="$(valgrind --version), $(rustc --version | cut -d' ' -f1-2), commit $(git rev-parse --short HEAD)."
+tools="$(valgrind --version), $(rustc --version | cut -d' ' -f1-2), $(rt version | cut -d' ' -f1), commit $(git rev-parse --short HEAD)."
 
 # The instructions of one kind of call: count WHO WHAT WORK B Q. With the option --cache-sim=yes after these, the data
 # writes as well. What the program printed last, how many calls they were, is then in $folder/number.

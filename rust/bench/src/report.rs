@@ -28,8 +28,11 @@ pub fn machine() -> String {
     let load = std::fs::read_to_string("/proc/loadavg").unwrap_or_default();
     let load = load.split(' ').next().unwrap_or("?").to_string();
     let model = model.unwrap_or("unknown");
-    let (day, commit) = (today(), commit());
-    format!("Machine: {model}, {cores} cores, load average {load} when the run ended. Date: {day}. Commit: {commit}.")
+    let (day, commit, kit) = (today(), commit(), kit());
+    format!(
+        "Machine: {model}, {cores} cores, load average {load} when the run ended. Date: {day}. Commit: {commit}.\n\
+         Toolchain: {kit}."
+    )
 }
 
 /// The commit that was measured, if git knows it.
@@ -37,6 +40,13 @@ fn commit() -> String {
     let said = std::process::Command::new("git").args(["rev-parse", "--short", "HEAD"]).output();
     let text = said.map(|out| String::from_utf8_lossy(&out.stdout).trim().to_string()).unwrap_or_default();
     if text.is_empty() { "unknown".into() } else { text }
+}
+
+/// The name of the Rattle toolchain that is on the path, which made the archive.
+fn kit() -> String {
+    let said = std::process::Command::new("rt").arg("version").output();
+    let text = said.map(|out| String::from_utf8_lossy(&out.stdout).to_string()).unwrap_or_default();
+    text.split(' ').next().filter(|name| !name.is_empty()).unwrap_or("unknown").to_string()
 }
 
 /// The date, from the seconds since 1970.
