@@ -11,5 +11,4 @@ pub mod Log
 pub mod History
 pub mod Opened
 pub mod Table
-pub mod TableProof
 pub mod Claims

@@ -2,7 +2,7 @@
 use Rattle.std.specs.Prelude.{refl}
 use Rattle.calls.specs.Opened.{open_tests, open_programs, open_window}
 use Rattle.calls.specs.Table.{fresh as printed_fresh}
-use Rattle.calls.specs.TableProof.{eight, on_eight}
+use Rattle.calls.proofs.TableProof.{eight, on_eight}
 use Rattle.edges.specs.EdgesStores.{fresh, three}
 use Rattle.edges.specs.EdgesWindow.{crosses, RangeEdges, ReadEdges, StoodEdges, UnknownEdges}
 use Rattle.edges.specs.WindowTable.{WindowTable, LatestTable}
