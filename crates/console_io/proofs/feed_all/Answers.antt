@@ -1,10 +1,6 @@
 -- `feed_all` meets its contract: the bytes are fed in order, until the run is over. It ends: they are counted.
 use mathlib.Core.Path.{sym, ◌∙◌}
-use Prim.Native.Nat.{◌-◌}
-use lib.ListN.{length}
-use Rattle.console_io.specs.Session.{running}
-use Rattle.console_io.specs.SessionLaws.{FedTo, to_none, to_over, to_whole, to_next}
-use borrow.Author.Rules.{rules}
+use Rattle.console_io.specs.SessionLaws.{to_none, to_over, to_whole, to_next}
 use Rattle.console_io.proofs.feed_all.Goals as goal
 
 pub loop-i-init : goal.loop-i-init

@@ -1,10 +1,8 @@
 -- `feed_all` meets its contract: the bytes are fed in order, until the run is over. It ends: they are counted.
-use mathlib.Core.Path.{sym, ◌∙◌}
 use Prim.Native.Nat.{◌-◌}
 use lib.ListN.{length}
 use Rattle.console_io.specs.Session.{running}
-use Rattle.console_io.specs.SessionLaws.{FedTo, to_none, to_over, to_whole, to_next}
-use borrow.Author.Rules.{rules}
+use Rattle.console_io.specs.SessionLaws.{FedTo}
 use Rattle.console_io.proofs.feed_all.Given as goal
 
 abbrev pub invariant-loop-i : goal.invariant-loop-i

@@ -2,7 +2,6 @@
 use mathlib.Core.Path.{refl, sym, ◌∙◌}
 use mir.Syntax.{w64}
 use mir.ValLaws.{to_z-of_z}
-use borrow.Author.Rules.{rules}
 use Rattle.console_io.specs.SessionLaws.{counted, fed_counted}
 use Rattle.console_io.proofs.feed_read.Goals as goal
 

@@ -1,6 +1,5 @@
 -- `finish` meets its contract: what the last step says is handed on, then what is said of a missing line.
 use Rattle.console_io.specs.SessionLaws.{finished}
-use borrow.Author.Rules.{rules}
 use Rattle.console_io.proofs.finish.Goals as goal
 
 pub returns : goal.returns

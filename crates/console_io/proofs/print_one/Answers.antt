@@ -1,7 +1,6 @@
 -- `print_one` meets its contract: what is printed into the buffer is handed on.
 use Rattle.console_io.specs.SinkLaws.{printed_line, emit_as}
 use mathlib.Core.Path.{refl}
-use borrow.Author.Rules.{rules}
 use Rattle.console_io.proofs.print_one.Goals as goal
 
 pub returns : goal.returns

@@ -1,8 +1,7 @@
 -- `print_said` meets its contract: the lines are handed on in order. It ends: they are counted.
 use Prim.Native.Nat.{◌-◌}
-use borrow.Author.Rules.{rules}
 use Rattle.console_run.specs.Console.{said_lines}
-use Rattle.console_io.specs.SinkLaws.{SentTo, sent_none, said_next, said_whole}
+use Rattle.console_io.specs.SinkLaws.{SentTo}
 use Rattle.console_io.proofs.print_said.Given as goal
 
 abbrev pub invariant-loop-i : goal.invariant-loop-i

@@ -1,8 +1,5 @@
 -- `read_all` meets its contract: read after read is fed. It ends: the reads are counted down.
-use mathlib.Core.Path.{◌≡◌, sym, ◌∙◌}
-use lib.ListN.{length}
-use borrow.Author.Rules.{rules}
-use Rattle.console_io.specs.Session.{running, ReadAll}
+use mathlib.Core.Path.{sym, ◌∙◌}
 use Rattle.console_io.specs.SessionLaws.{read_none, read_fed, read_end}
 use Rattle.console_io.proofs.read_all.Goals as goal
 

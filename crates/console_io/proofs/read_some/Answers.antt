@@ -1,5 +1,4 @@
 -- `read_some` meets its contract: whatever the read answered, as many bytes are fed.
-use borrow.Author.Rules.{rules}
 use Rattle.console_io.proofs.read_some.Goals as goal
 
 pub returns : goal.returns

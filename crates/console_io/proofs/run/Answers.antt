@@ -1,6 +1,5 @@
 -- `run` meets its contract: the names line, every read, and the end.
 use mathlib.Core.Path.{refl}
-use borrow.Author.Rules.{rules}
 use Rattle.console_io.specs.SessionLaws.{ran}
 use Rattle.console_io.proofs.run.Goals as goal
 

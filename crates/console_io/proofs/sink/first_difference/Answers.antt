@@ -1,6 +1,5 @@
 -- `sink::first_difference` meets its contract, sink by sink.
 use Rattle.console_io.specs.SinkLaws.{differs_unasked, differs_whole, differs_short, differs_found, differs_uncompared}
-use borrow.Author.Rules.{rules}
 use Rattle.console_io.proofs.sink.first_difference.Goals as goal
 
 pub returns-in-Write : goal.returns-in-Write

@@ -1,7 +1,6 @@
 -- `sink::gives_all` is safe and ends: the bytes are counted.
 use Prim.Native.Nat.{◌-◌}
 use lib.ListN.{length}
-use borrow.Author.Rules.{rules}
 use Rattle.console_io.proofs.sink.gives_all.Given as goal
 
 abbrev pub invariant-loop-i : goal.invariant-loop-i
