@@ -1,6 +1,6 @@
 // Calls on damaged stores. Whatever the words are, a call answers 0 or a refusal that it can meet, and a refused one leaves what
 // documents 01 and 02 say.
-use crate::{calls, history, tally};
+use crate::{called, history, tally};
 use model::asked::*;
 use model::memory::*;
 use model::random::*;
@@ -40,7 +40,7 @@ fn first_left(memory: &Memory, got: u32) -> u32 {
 
 fn change_turn(memory: &mut Memory, kind: u32) {
     let c = damage::change(memory, kind);
-    let got = calls::change(memory, c);
+    let got = called::change(memory, c);
     tally::answered_damaged(memory, may(kind, got), got);
     let start = first_left(memory, got);
     history::left(memory, 0, start, WROTE);
@@ -50,7 +50,7 @@ fn look_back_turn(memory: &mut Memory) {
     let second = past(memory);
     let length = get(memory, log::LENGTH);
     let a = draw::look_back_at(memory, length, second);
-    let got = calls::look_back(memory, a);
+    let got = called::look_back(memory, a);
     tally::answered_damaged(memory, may(LOOK_BACK, got), got);
     history::left(memory, looked::left(memory, a, got), 0, WROTE);
 }
@@ -59,7 +59,7 @@ fn window_turn(memory: &mut Memory) {
     let last = past(memory);
     let length = get(memory, log::LENGTH);
     let a = draw::window_to(memory, length, last);
-    let got = calls::window(memory, a);
+    let got = called::window(memory, a);
     tally::answered_damaged(memory, may(WINDOW, got), got);
     tally::windowed(memory, tally::DAMAGED_WINDOWS, got);
     let found = crossed::left(memory, a, got);
@@ -70,7 +70,7 @@ fn window_turn(memory: &mut Memory) {
 fn start_turn(memory: &mut Memory) {
     let length = get(memory, log::LENGTH);
     let s = book::current(memory);
-    let got = calls::start(memory, length, s);
+    let got = called::start(memory, length, s);
     tally::answered_damaged(memory, got == 0, got);
     history::keep_zeros(memory);
     history::left(memory, 0, history::AFTER_SETTINGS, WROTE);

@@ -1,5 +1,5 @@
 // One history: a store of marks, a start, and calls drawn at random, each made on the register and compared with the log and the book.
-use crate::{calls, tally};
+use crate::{called, tally};
 use model::asked::*;
 use model::memory::*;
 use model::random::*;
@@ -50,7 +50,7 @@ fn count_blocks(memory: &mut Memory) {
 
 // A start; an accepted one begins log and book anew.
 fn start_turn(memory: &mut Memory, s: Settings, length: u32) {
-    let got = calls::start(memory, length, s);
+    let got = called::start(memory, length, s);
     tally::answered(memory, due::start(s, length), got);
     if got == 0 {
         count_blocks(memory);
@@ -64,7 +64,7 @@ fn start_turn(memory: &mut Memory, s: Settings, length: u32) {
 fn change_turn(memory: &mut Memory, kind: u32) {
     let c = draw::change(memory, kind);
     let due = due::change(memory, c);
-    let got = calls::change(memory, c);
+    let got = called::change(memory, c);
     tally::answered(memory, due, got);
     if got == 0 {
         log::enter(memory, c);
@@ -75,7 +75,7 @@ fn change_turn(memory: &mut Memory, kind: u32) {
 
 fn look_back_turn(memory: &mut Memory) {
     let a = draw::look_back(memory);
-    let got = calls::look_back(memory, a);
+    let got = called::look_back(memory, a);
     tally::answered(memory, due::look_back(memory, a), got);
     tally::note(memory, looked::agrees(memory, a, got));
     if got == 0 {
@@ -87,7 +87,7 @@ fn look_back_turn(memory: &mut Memory) {
 
 fn window_turn(memory: &mut Memory) {
     let a = draw::window(memory);
-    let got = calls::window(memory, a);
+    let got = called::window(memory, a);
     tally::answered(memory, due::window(memory, a), got);
     tally::windowed(memory, tally::WINDOWS, got);
     let found = crossed::agrees(memory, a, got);

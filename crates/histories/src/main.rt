@@ -3,7 +3,7 @@
 // of all that is drawn in it.
 #![tactic(auto)]
 
-mod calls;
+mod called;
 mod damaged;
 mod history;
 mod tally;
