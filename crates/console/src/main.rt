@@ -5,5 +5,5 @@ use console_io::sink::Sink;
 use std::os::fd::AsRawFd;
 
 fn main(rt: HostRuntime) {
-    console_io::run(&mut rt.stdin(), Sink::Write(rt.stdout().as_raw_fd()));
+    console_io::run_over(&mut rt.stdin(), Sink::Write(rt.stdout().as_raw_fd()));
 }

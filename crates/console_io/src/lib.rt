@@ -1,8 +1,9 @@
-// THE CONSOLE OVER DESCRIPTORS: input is read in chunks and fed byte by byte, and each output line is written, or compared with an expected one.
+// THE CONSOLE OVER READERS AND DESCRIPTORS: input is read in chunks and fed byte by byte, and each output line is written, or compared with an expected one.
 // For the bytes that the reads leave in their buffer, the lines handed to `sink::emit` are the console's output (specs/Session.antt). What the
 // operating system reads and writes no contract can say.
 #![tactic(auto)]
 
+mod descriptor;
 pub mod sink;
 
 ghost use Rattle.std.specs.Prelude.{◌≡◌, [], get_or};
@@ -17,6 +18,7 @@ use console_run::print;
 use console_run::turn::{Said, Stage};
 use console_text::gather::LINE_MOST;
 use console_text::print::LINE_ROOM;
+use descriptor::Descriptor;
 use sink::Sink;
 use std::io::Read;
 
@@ -235,8 +237,8 @@ fn finish(
     print_said(printed, print::at_end(stage), next.number, rows)
 }
 
-// The console's run over all that `input` gives. A read that fails ends it, as the input's end does.
-pub fn run<R: Read>(input: &mut R, sink: Sink) -> Sink
+// The console's run over all that a reader gives. A read that fails ends it, as the input's end does.
+pub fn run_over<R: Read>(input: &mut R, sink: Sink) -> Sink
     ensures { Ran sink result }
 {
     let mut line = [0u8; LINE_MOST];
@@ -249,4 +251,11 @@ pub fn run<R: Read>(input: &mut R, sink: Sink) -> Sink
     };
     let read = read_all(begun, input, &mut line, &mut store, &mut rows, &mut list);
     finish(read, &line, &mut store, &mut rows, &mut list)
+}
+
+// The console's run over all that the descriptor `input` gives.
+pub fn run(input: i32, sink: Sink) -> Sink
+    ensures { Ran sink result }
+{
+    run_over(&mut Descriptor(input), sink)
 }

@@ -5,7 +5,6 @@ use console_run::feed::{COUNT_MOST, next_number};
 use console_text::gather::LINE_MOST;
 use std::fs;
 use std::fs::File;
-use std::io::empty;
 use std::os::fd::AsRawFd;
 use std::rt::Files;
 
@@ -143,12 +142,8 @@ fn show_printed<R: Files<File = File>>(
     len: usize,
     number: u64,
 ) {
-    let one = Sink::Pick(STDOUT, number);
-    let printed = match open_in(rt, line, len) {
-        Some(mut input) => console_io::run(&mut input, one),
-        None => console_io::run(&mut empty(), one),
-    };
-    if let Sink::Pick(_, left) = printed {
+    let input = open_in(rt, line, len);
+    if let Sink::Pick(_, left) = console_io::run(descriptor(&input), Sink::Pick(STDOUT, number)) {
         if left != 0 {
             io::write_all(STDOUT, b"(no such line)\n");
         }
@@ -161,7 +156,7 @@ pub(crate) fn agrees<R: Files<File = File>>(
     line: &mut [u8; LINE_MOST],
     len: usize,
 ) -> bool {
-    let Some(mut input) = open_in(rt, line, len) else {
+    let Some(input) = open_in(rt, line, len) else {
         tell(line, len, b": its .in file is missing\n");
         return false;
     };
@@ -170,7 +165,7 @@ pub(crate) fn agrees<R: Files<File = File>>(
         return false;
     };
     let compared = Sink::Compare(expected.as_raw_fd(), 0);
-    let difference = sink::first_difference(console_io::run(&mut input, compared));
+    let difference = sink::first_difference(console_io::run(input.as_raw_fd(), compared));
     drop(input);
     drop(expected);
     if difference == 0 {
