@@ -30,8 +30,8 @@ pub fn machine() -> String {
     let model = model.unwrap_or("unknown");
     let (day, commit, kit) = (today(), commit(), kit());
     format!(
-        "Machine: {model}, {cores} cores, load average {load} when the run ended. Date: {day}. Commit: {commit}.\n\
-         Toolchain: {kit}."
+        "Machine: {model}, {cores} cores, load average {load} when the run ended.\n\
+         Date: {day}. Commit: {commit}. Toolchain: {kit}."
     )
 }
 
