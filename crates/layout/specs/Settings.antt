@@ -1,9 +1,8 @@
 -- THE LIMITS OF THE SETTINGS (document 01, "The lent store"), and what the constructor answers.
-use Rattle.std.specs.Prelude.{Bool, cond, ◌&&◌, ℕ, ◌*◌, ◌≤◌, leb}
+use Rattle.std.specs.Prelude.{Bool, cond, ◌&&◌, ℕ, ◌*◌, ◌≤◌, leb, Result, Ok, Err}
 use Rattle.layout.specs.declared.settings.Settings.{Settings}
-use Rattle.layout.specs.declared.settings.SettingsAnswer.{SettingsAnswer}
-use Rattle.layout.specs.declared.settings.SettingsAnswer.TheVariants.{Fit, Refused}
-use Rattle.layout.specs.RefusalNumbers.{SETTINGS}
+use Rattle.layout.specs.declared.refusal.Refusal.{Refusal}
+use Rattle.layout.specs.declared.refusal.Refusal.TheVariants as refusal
 
 -- b, q, B and D as one value
 abbrev pub settings_of : ℕ → ℕ → ℕ → ℕ → Settings
@@ -18,10 +17,10 @@ in_limits s =
     && (leb 1 s.tags && leb s.tags 4096))))))
 
 -- refusal 1 for exactly the settings outside of them
-unfoldable pub settings_answer : ℕ → ℕ → ℕ → ℕ → SettingsAnswer
+unfoldable pub settings_answer : ℕ → ℕ → ℕ → ℕ → Result Settings Refusal
 settings_answer block useful blocks tags =
     let s : Settings = settings_of block useful blocks tags in
-    cond (in_limits s) (Fit s) (Refused SETTINGS)
+    cond (in_limits s) (Ok s) (Err refusal.Settings)
 
 -- the limits as facts
 pub record Within (s : Settings) : Type 0 where

@@ -32,13 +32,11 @@ pub enum Address {
 pub(crate) fn level_start(l: u32) -> usize
     ensures { LevelAt l result }
 {
-    if l == 0 {
-        return sizes::LEVEL_0;
+    match l {
+        0 => sizes::LEVEL_0,
+        1 => sizes::LEVEL_1,
+        _ => sizes::LEVEL_2,
     }
-    if l == 1 {
-        return sizes::LEVEL_1;
-    }
-    sizes::LEVEL_2
 }
 
 // Where block n starts: blocks are counted from 1.

@@ -21,18 +21,8 @@ pub const HEAD_CHILD: usize = 8;
 
 pub const HEAD_RIGHT: usize = 9;
 
-// six zeros
-pub const HEAD_SPARE_0: usize = 10;
-
-pub const HEAD_SPARE_1: usize = 11;
-
-pub const HEAD_SPARE_2: usize = 12;
-
-pub const HEAD_SPARE_3: usize = 13;
-
-pub const HEAD_SPARE_4: usize = 14;
-
-pub const HEAD_SPARE_5: usize = 15;
+// where the six zeros begin
+pub const HEAD_SPARE: usize = 10;
 
 // `Address::Field`: the seconds and links of a block
 pub const OPENED: u32 = 0;

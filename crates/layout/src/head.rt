@@ -1,20 +1,22 @@
 // The head of the store as one value: read with its refusals, written, and moved on. A change takes the head, and each of the methods `at`, `filled`,
 // `grown` and `relinked` answers the next one.
-ghost use Rattle.std.specs.Prelude.{◌≡◌, ◌≤◌, ◌<◌, length};
+ghost use Rattle.std.specs.Prelude.{◌≡◌, ◌≤◌, ◌<◌, length, IfOk};
 ghost use Rattle.layout.specs.Sizes.{head_len, layout_len};
 ghost use Rattle.layout.specs.Settings.{Within};
-ghost use Rattle.layout.specs.Head.{fresh_head, onward, head_of, with_head, cleared, fill_fits, spare_zero, bad_head, head_refusal, placed};
-ghost use Rattle.layout.specs.HeadLaws.{SoundHead};
+ghost use Rattle.layout.specs.RefusalNumbers.{refused};
+ghost use Rattle.layout.specs.Head.{fresh_head, onward, head_of, head_words, with_head, cleared, fill_fits, spare_zero, bad_head, head_refusal, placed};
+ghost use Rattle.layout.specs.HeadLaws.{SoundHead, HeadRead};
 ghost use Rattle.layout.specs.Cursor.{at, filled, grown, relinked, store_cursor};
 ghost use Rattle.layout.specs.Ran.{Ran};
 ghost use Rattle.layout.specs.OnWords.{over, Held};
 
 use crate::address::Address;
+use crate::refusal::Refusal;
 use crate::settings::Settings;
-use crate::{address, fields, parts, refusal, sizes};
+use crate::{address, fields, parts, sizes};
 
 // The part of the head that moves on: what is not settings.
-#[derive(Clone, Copy)]
+#[derive(Clone, Copy, Default)]
 pub struct Cursor {
     // N: blocks opened; block N is the acceptor
     pub opened: u32,
@@ -39,36 +41,27 @@ impl Head {
     pub fn fresh(settings: Settings) -> Head
         ensures { result ≡ fresh_head settings }
     {
-        let cursor = Cursor {
-            opened: 0,
-            clock: 0,
-            fill: 0,
-            child: 0,
-            right: 0,
-        };
-        Head { settings, cursor }
+        Head {
+            settings,
+            cursor: Cursor::default(),
+        }
     }
 
     // The next head: the settings stay, the cursor moves on.
     pub fn onward(self, cursor: Cursor) -> Head
         ensures { result ≡ onward self cursor }
     {
-        let settings = self.settings;
-        Head { settings, cursor }
+        Head { cursor, ..self }
     }
 
     // The next head, its clock at `second`.
     pub fn at(self, second: u32) -> Head
         ensures { result ≡ onward self (at second self.cursor) }
     {
-        let cursor = Cursor {
-            opened: self.cursor.opened,
+        self.onward(Cursor {
             clock: second,
-            fill: self.cursor.fill,
-            child: self.cursor.child,
-            right: self.cursor.right,
-        };
-        self.onward(cursor)
+            ..self.cursor
+        })
     }
 
     // The next head, with one record more in the acceptor.
@@ -76,14 +69,10 @@ impl Head {
         requires { self.cursor.fill < 64 }
         ensures { result ≡ onward self (filled self.cursor) }
     {
-        let cursor = Cursor {
-            opened: self.cursor.opened,
-            clock: self.cursor.clock,
+        self.onward(Cursor {
             fill: self.cursor.fill + 1,
-            child: self.cursor.child,
-            right: self.cursor.right,
-        };
-        self.onward(cursor)
+            ..self.cursor
+        })
     }
 
     // The next head, with one block more, empty; `right` is right of block 0.
@@ -91,28 +80,47 @@ impl Head {
         requires { self.cursor.opened < 4096 }
         ensures { result ≡ onward self (grown right self.cursor) }
     {
-        let cursor = Cursor {
+        self.onward(Cursor {
             opened: self.cursor.opened + 1,
-            clock: self.cursor.clock,
             fill: 0,
-            child: self.cursor.child,
             right,
-        };
-        self.onward(cursor)
+            ..self.cursor
+        })
     }
 
     // The next head, with block 0's last child and right.
     pub fn relinked(self, child: u32, right: u32) -> Head
         ensures { result ≡ onward self (relinked child right self.cursor) }
     {
-        let cursor = Cursor {
-            opened: self.cursor.opened,
-            clock: self.cursor.clock,
-            fill: self.cursor.fill,
+        self.onward(Cursor {
             child,
             right,
-        };
-        self.onward(cursor)
+            ..self.cursor
+        })
+    }
+
+    // The words that hold it: the last six are zeros.
+    fn words(self) -> [u32; sizes::HEAD_LEN]
+        ensures { result ≡ head_words self }
+    {
+        [
+            sizes::MARK,
+            self.settings.block,
+            self.settings.useful,
+            self.settings.blocks,
+            self.settings.tags,
+            self.cursor.opened,
+            self.cursor.clock,
+            self.cursor.fill,
+            self.cursor.child,
+            self.cursor.right,
+            0,
+            0,
+            0,
+            0,
+            0,
+            0,
+        ]
     }
 
     // Records placed so far: every block before the acceptor is full.
@@ -133,10 +141,7 @@ impl Head {
         if self.cursor.opened == 0 {
             return self.cursor.fill == 0;
         }
-        if self.cursor.fill < 1 {
-            return false;
-        }
-        self.cursor.fill <= self.settings.block
+        1 <= self.cursor.fill && self.cursor.fill <= self.settings.block
     }
 }
 
@@ -166,22 +171,7 @@ fn spare_zero(store: &[u32]) -> bool
     requires { head_len ≤ length store.now }
     ensures { result ≡ spare_zero store.now }
 {
-    if store[fields::HEAD_SPARE_0] != 0 {
-        return false;
-    }
-    if store[fields::HEAD_SPARE_1] != 0 {
-        return false;
-    }
-    if store[fields::HEAD_SPARE_2] != 0 {
-        return false;
-    }
-    if store[fields::HEAD_SPARE_3] != 0 {
-        return false;
-    }
-    if store[fields::HEAD_SPARE_4] != 0 {
-        return false;
-    }
-    store[fields::HEAD_SPARE_5] == 0
+    store[fields::HEAD_SPARE..sizes::HEAD_LEN] == [0; 6]
 }
 
 // Refusal 3: words that no start and no change left.
@@ -208,17 +198,18 @@ fn bad_head(store: &[u32]) -> bool
     !h.fill_fits()
 }
 
-// Refusal 2 for a store that has no head, refusal 3 for a bad one, else 0: then the head is `head_of`.
-pub fn head_refusal(store: &[u32]) -> u32
-    ensures { result ≡ head_refusal store.now }
+// The head that the words hold. A store that has none is refused, and so is a bad head.
+pub fn read_head(store: &[u32]) -> Result<Head, Refusal>
+    ensures refusal { refused result ≡ head_refusal store.now }
+    ensures head { IfOk result (HeadRead store.now) }
 {
     if store.len() < sizes::HEAD_LEN {
-        return refusal::SHORT_HEAD;
+        return Err(Refusal::ShortHead);
     }
     if bad_head(store) {
-        return refusal::HEAD;
+        return Err(Refusal::Head);
     }
-    0
+    Ok(head_of(store))
 }
 
 // All 16 words, the last six as zeros.
@@ -226,22 +217,7 @@ pub fn write_head(store: &mut [u32], h: Head)
     requires { head_len ≤ length store.old }
     ensures { store.new ≡ with_head h store.old }
 {
-    store[fields::HEAD_MARK] = sizes::MARK;
-    store[fields::HEAD_BLOCK] = h.settings.block;
-    store[fields::HEAD_USEFUL] = h.settings.useful;
-    store[fields::HEAD_BLOCKS] = h.settings.blocks;
-    store[fields::HEAD_TAGS] = h.settings.tags;
-    store[fields::HEAD_OPENED] = h.cursor.opened;
-    store[fields::HEAD_CLOCK] = h.cursor.clock;
-    store[fields::HEAD_FILL] = h.cursor.fill;
-    store[fields::HEAD_CHILD] = h.cursor.child;
-    store[fields::HEAD_RIGHT] = h.cursor.right;
-    store[fields::HEAD_SPARE_0] = 0;
-    store[fields::HEAD_SPARE_1] = 0;
-    store[fields::HEAD_SPARE_2] = 0;
-    store[fields::HEAD_SPARE_3] = 0;
-    store[fields::HEAD_SPARE_4] = 0;
-    store[fields::HEAD_SPARE_5] = 0;
+    store[..sizes::HEAD_LEN].copy_from_slice(&h.words());
 }
 
 // The words that a change moves on; the settings are never written again.

@@ -15,8 +15,7 @@ fn part(words: &[u32], start: usize, len: usize) -> &[u32]
     requires { start + len ≤ length words.now }
     ensures { Part words.now start len result.now }
 {
-    let end = start + len;
-    &words[start..end]
+    &words[start..start + len]
 }
 
 // Block n.
@@ -33,13 +32,11 @@ pub fn block(store: &[u32], s: Settings, n: u32) -> &[u32]
 fn level_words(l: u32) -> usize
     ensures { result ≡ level_len l }
 {
-    if l == 0 {
-        return sizes::LEVEL_1 - sizes::LEVEL_0;
+    match l {
+        0 => sizes::LEVEL_1 - sizes::LEVEL_0,
+        1 => sizes::LEVEL_2 - sizes::LEVEL_1,
+        _ => sizes::DIR_START - sizes::LEVEL_2,
     }
-    if l == 1 {
-        return sizes::LEVEL_2 - sizes::LEVEL_1;
-    }
-    sizes::DIR_START - sizes::LEVEL_2
 }
 
 // Level l of the index.
@@ -82,11 +79,7 @@ pub fn slot_word(block: &[u32], k: u32, i: u32) -> u32
 pub fn zero_all(part: &mut [u32])
     ensures { part.new ≡ replicate (length part.old) 0 }
 {
-    let mut i = 0;
-    while i < part.len() {
-        part[i] = 0;
-        i += 1;
-    }
+    part.fill(0);
 }
 
 // The words of a store from `start` on, `len` of them, set to zero.
@@ -94,6 +87,5 @@ pub(crate) fn zero_part(store: &mut [u32], start: usize, len: usize)
     requires { start + len ≤ length store.old }
     ensures { store.new ≡ sets store.old start (replicate len 0) }
 {
-    let end = start + len;
-    zero_all(&mut store[start..end]);
+    zero_all(&mut store[start..start + len]);
 }

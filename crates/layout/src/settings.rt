@@ -3,7 +3,8 @@ ghost use Rattle.std.specs.Prelude.{◌≡◌};
 ghost use Rattle.layout.specs.Settings.{settings_of, in_limits, settings_answer, Within};
 ghost use Rattle.layout.specs.SettingsLaws.{BlockLong, StoreLong};
 
-use crate::{refusal, sizes};
+use crate::refusal::Refusal;
+use crate::sizes;
 
 #[derive(Clone, Copy)]
 pub struct Settings {
@@ -15,13 +16,6 @@ pub struct Settings {
     pub blocks: u32,
     // D: tags
     pub tags: u32,
-}
-
-// What the constructor answers: the settings, or refusal 1.
-#[derive(Clone, Copy)]
-pub enum SettingsAnswer {
-    Fit(Settings),
-    Refused(u32),
 }
 
 impl Settings {
@@ -52,19 +46,14 @@ impl Settings {
     }
 
     // The settings, if each is within its limits.
-    pub fn new(block: u32, useful: u32, blocks: u32, tags: u32) -> SettingsAnswer
+    pub fn new(block: u32, useful: u32, blocks: u32, tags: u32) -> Result<Settings, Refusal>
         ensures { result ≡ settings_answer block useful blocks tags }
     {
-        let s = Settings {
-            block,
-            useful,
-            blocks,
-            tags,
-        };
+        let s = Self::asked(block, useful, blocks, tags);
         if s.within() {
-            SettingsAnswer::Fit(s)
+            Ok(s)
         } else {
-            SettingsAnswer::Refused(refusal::SETTINGS)
+            Err(Refusal::Settings)
         }
     }
 

@@ -63,7 +63,7 @@ impl Standing {
     pub fn count(self) -> u32
         ensures { result ≡ length (slots self) }
     {
-        u64::count_ones(self.high as u64 * Self::HIGH_WEIGHT + self.low as u64)
+        (u64::from(self.high) * Self::HIGH_WEIGHT + u64::from(self.low)).count_ones()
     }
 
     // Slot k stands.
@@ -85,12 +85,12 @@ impl Standing {
         if k < 32 {
             return Standing {
                 low: bit_on(self.low, k),
-                high: self.high,
+                ..self
             };
         }
         Standing {
-            low: self.low,
             high: bit_on(self.high, k - 32),
+            ..self
         }
     }
 
@@ -102,12 +102,12 @@ impl Standing {
         if k < 32 {
             return Standing {
                 low: bit_off(self.low, k),
-                high: self.high,
+                ..self
             };
         }
         Standing {
-            low: self.low,
             high: bit_off(self.high, k - 32),
+            ..self
         }
     }
 
@@ -115,10 +115,7 @@ impl Standing {
     pub fn is_empty(self) -> bool
         ensures { result ≡ none self }
     {
-        if self.low != 0 {
-            return false;
-        }
-        self.high == 0
+        self.low == 0 && self.high == 0
     }
 
     // The first slot that stands (64 where none does).
@@ -126,9 +123,9 @@ impl Standing {
         ensures { result ≡ first_slot self }
     {
         if self.low == 0 {
-            return 32 + u32::trailing_zeros(self.high);
+            return 32 + self.high.trailing_zeros();
         }
-        u32::trailing_zeros(self.low)
+        self.low.trailing_zeros()
     }
 
     // The slots that stand without the first.
@@ -143,7 +140,7 @@ impl Standing {
         }
         Standing {
             low: lower_off(self.low),
-            high: self.high,
+            ..self
         }
     }
 }

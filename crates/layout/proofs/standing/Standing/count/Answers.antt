@@ -9,4 +9,5 @@ use Rattle.layout.proofs.standing.Standing.count.Goals as goal
 pub returns : goal.returns
 returns c =
     let b = c.args.self in
-    ones_cat 32 b.high b.low (omega arith) ∙ add_comm _ _ ∙ sym (slots_count b.low b.high (omega arith) (omega arith))
+    rw (c.from.ensures, c.from-2.ensures)
+    (ones_cat 32 b.high b.low (omega arith) ∙ add_comm _ _ ∙ sym (slots_count b.low b.high (omega arith) (omega arith)))
