@@ -1,16 +1,7 @@
 -- `address::offset_of` meets its contract: each kind of address by its definition.
 use mathlib.Core.Path.{refl}
-use Rattle.layout.specs.OffsetLaws.{valid_as, placed_as, placed_behind}
+use Rattle.layout.specs.OffsetLaws.{placed_as, placed_behind}
 use Rattle.layout.proofs.address.offset_of.Goals as goal
-
-pub block_start-requires : goal.block_start-requires
-block_start-requires c = record { numbered = (valid_as c.args.s c.in-Field.is c.requires.valid).0; within = c.requires.within }
-
-pub block_start-requires-in-Bits : goal.block_start-requires-in-Bits
-block_start-requires-in-Bits c = record { numbered = (valid_as c.args.s c.in-Bits.is c.requires.valid).0; within = c.requires.within }
-
-pub block_start-requires-in-Slot : goal.block_start-requires-in-Slot
-block_start-requires-in-Slot c = record { numbered = (valid_as c.args.s c.in-Slot.is c.requires.valid).0; within = c.requires.within }
 
 pub returns-in-Head : goal.returns-in-Head
 returns-in-Head c = placed_as c.args.s c.requires.valid c.requires.within c.in-Head.is refl

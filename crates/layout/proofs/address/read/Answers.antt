@@ -1,10 +1,6 @@
 -- `address::read` meets its contract: the word at the address's place.
-use native.Mathlib.Omega.{arith}
 use Rattle.layout.specs.OffsetLaws.{in_store, ran_read}
 use Rattle.layout.proofs.address.read.Goals as goal
-
-pub offset_bounds-store-place : goal.offset_bounds-store-place
-offset_bounds-store-place c = omega arith
 
 pub bounds-store-place : goal.bounds-store-place
 bounds-store-place c = in_store c.requires.held c.offset_of-place.ensures

@@ -1,10 +1,6 @@
 -- `standing::bit_off` meets its contract: the word less the bit's weight, if it has it.
-use lib.Bits.{and_le_l}
 use Rattle.base.specs.Bits.{less_bit}
 use Rattle.layout.proofs.standing.bit_off.Goals as goal
-
-pub overflow_sub-result : goal.overflow_sub-result
-overflow_sub-result c = and_le_l _ _
 
 pub returns : goal.returns
 returns c = rw c.weight.ensures (less_bit _ _)

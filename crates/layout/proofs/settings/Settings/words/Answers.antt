@@ -4,12 +4,6 @@ use native.Mathlib.Nat.{mul-le-mul}
 use Rattle.layout.specs.Sizes.{layout_len}
 use Rattle.layout.proofs.settings.Settings.words.Goals as goal
 
-pub overflow_mul-result : goal.overflow_mul-result
-overflow_mul-result c = omega (arith, mul-le-mul c.requires.blocks c.block_words-block.ensures.small)
-
-pub overflow_add-result-2 : goal.overflow_add-result-2
-overflow_add-result-2 c = omega (arith, mul-le-mul c.requires.blocks c.block_words-block.ensures.small)
-
 pub returns : goal.returns
 unfolding layout_len
 returns c = record { is = cc; small = omega (arith, mul-le-mul c.requires.blocks c.block_words-block.ensures.small) }

@@ -1,12 +1,7 @@
 -- `Standing::first` meets its contract: the lowest one of the first word that has one.
-use native.Mathlib.Omega.{arith}
-use lib.Count.{trailing_le}
 use borrow.Author.Tests.{eq-eqb, ne_eqb}
 use Rattle.layout.specs.Standing.{first_slot}
 use Rattle.layout.proofs.standing.Standing.first.Goals as goal
-
-pub overflow_add-result : goal.overflow_add-result
-overflow_add-result c = omega (arith, trailing_le 32 c.args.self.high)
 
 pub returns-then-self-eq0 : goal.returns-then-self-eq0
 unfolding first_slot
