@@ -17,6 +17,7 @@ pub mod AddressLaws
 pub mod ProgramLaws
 pub mod Ran
 pub mod OnWords
+pub mod RefusalLaws
 pub mod SettingsLaws
 pub mod OffsetLaws
 pub mod PartsLaws

@@ -1,4 +1,5 @@
 pub mod Readable
+pub mod Opens
 pub mod Own
 pub mod OpenLaws
 pub mod BlockLaws

@@ -1,21 +1,21 @@
-// What every query begins with: a store whose head is sound and that is at least as long as its layout, or the refusal of its words.
+// What every call but a start begins with: a store whose head is sound and that is at least as long as its layout, or the refusal of its words.
 #![tactic(auto)]
 
-ghost use Rattle.queries.specs.Readable.{Opens};
+mod opened;
 
-use layout::{head, refusal};
+ghost use Rattle.queries.specs.Opens.{Opens};
 
-// Refusal 2, 3 or 4, 0 if none applies: then the head is `head_of`. (Tests answer a number, and no head is handed from one function to the next.)
-pub fn open(store: &[u32]) -> u32
+use layout::head;
+use layout::refusal::Refusal;
+pub use opened::Opened;
+
+// Refusals 2, 3 and 4: else the store as it was opened, with its head.
+pub fn open(store: &[u32]) -> Result<Opened<'_>, Refusal>
     ensures { Opens store.now result }
 {
-    let n = head::head_refusal(store);
-    if n != 0 {
-        return n;
+    let head = head::read_head(store)?;
+    if store.len() < head.settings.words() {
+        return Err(Refusal::ShortStore);
     }
-    let h = head::head_of(store);
-    if store.len() < h.settings.words() {
-        return refusal::SHORT_STORE;
-    }
-    0
+    Ok(Opened { store, head })
 }
