@@ -1,5 +1,6 @@
 -- What a change will do: free slots taken one by one, few copies, and places within the blocks opened.
-use Rattle.std.specs.Prelude.{◌≡◌, Bool, not, ℕ, suc, ◌+◌, ◌-◌, ◌≤◌, ◌<◌, eqb, ltb, length}
+use Rattle.std.specs.Prelude.{◌≡◌, refl, Bool, true, false, not, ℕ, suc, ◌+◌, ◌-◌, ◌≤◌, ◌<◌, eqb, ltb, length}
+use mir.Val.{bool_byte}
 use Rattle.std.proofs.Common.{sym, ap, ◌∙◌, arith, ltb-true, ne_eqb, lt-ltb, le-ltb}
 use Rattle.base.specs.Branch.{lt?, cond_all, and-true}
 use Rattle.layout.specs.declared.head.Head.{Head}
@@ -11,6 +12,7 @@ use Rattle.layout.specs.HeadLaws.{SoundHead}
 use Rattle.layout.specs.Spot.{Lies}
 use Rattle.layout.specs.Standing.{slots, raised}
 use Rattle.calls.specs.Placing.{block_of, slot_of}
+use Rattle.decisions.specs.Verdict.{more}
 use Rattle.calls.specs.Refusals.{opens, taken_up, closes, copies, remaining}
 
 -- the acceptor, with standing bits b, has fewer than q standing once its free slots are taken (`acceptor_closes` where a block opens)
@@ -47,3 +49,12 @@ numbered_at i e = rw e i.block
 
 pub slot_at : {h : Head} {p k : ℕ} → Lies h p → k ≡ slot_of h.settings p → k < h.settings.block
 slot_at i e = rw e i.slot
+
+-- ---- one more record for a new reading, as a word
+pub more_word : (renews : Bool) → bool_byte renews ≡ more renews
+more_word true = refl
+more_word false = refl
+
+pub more_few : (renews : Bool) → bool_byte renews ≤ 1
+more_few true = omega arith
+more_few false = omega arith

@@ -1,5 +1,4 @@
 pub mod Verdict
-pub mod Start
 pub mod Ready
 pub mod TestLaws
 pub mod EffectLaws

@@ -6,29 +6,24 @@ use Rattle.layout.specs.declared.address.Address.TheVariants.{Dir}
 use Rattle.layout.specs.Sizes.{OPEN, head_len, layout_len}
 use Rattle.layout.specs.Memory.{Memory}
 use Rattle.layout.specs.Settings.{Within}
-use Rattle.layout.specs.HeadLaws.{HeadRead}
-use Rattle.layout.specs.OnWords.{over, Held}
+use Rattle.layout.specs.OnWords.{Held}
+use Rattle.queries.specs.declared.opened.Opened.{Opened}
+use Rattle.queries.specs.Readable.{Readable, words_of}
 use Rattle.calls.specs.Refusals.{tag_block, copies, unsound_set, unsound_clear, blocks_out}
 
--- the words as a memory, by the settings of a head
-abbrev pub words_of : Head → List ℕ → Memory
-words_of h ws = (over h.settings).read ws
-
--- words that hold the head h and are as long as its layout
-pub record Ready (ws : List ℕ) (h : Head) : Type 0 where
-  pub head : HeadRead ws h
-  pub long : layout_len h.settings ≤ length ws
-  pub held : Held h.settings ws
+-- the words as a memory
+abbrev pub words_in : Opened → Memory
+words_in o = words_of o.head o.store.now
 
 -- p is the place of a tag's standing record
-pub record PlaceOf (h : Head) (ws : List ℕ) (tag p : ℕ) : Type 0 where
-  pub is : p ≡ words_of h ws (Dir tag)
+pub record PlaceOf (o : Opened) (tag p : ℕ) : Type 0 where
+  pub is : p ≡ words_in o (Dir tag)
   pub some : 1 ≤ p
 
 -- ---- where no refusal applies
 -- a change or clock move at a second
 pub record ReadyTime (ws : List ℕ) (h : Head) (second : ℕ) : Type 0 where
-  pub ready : Ready ws h
+  pub ready : Readable ws h
   pub not_open : second < OPEN
   pub not_early : h.cursor.clock ≤ second
 

@@ -1,5 +1,5 @@
 -- What a call that may go on finds: no refusal of its table applies, as facts about the words.
-use Rattle.std.specs.Prelude.{◌≡◌, refl, List, [], ℕ, ◌≤◌, length}
+use Rattle.std.specs.Prelude.{◌≡◌, refl, List, [], ℕ, ◌≤◌, length, Ok}
 use Rattle.std.proofs.Common.{◌∙◌, arith, ltb-false, leb-false, eqb-true}
 use Rattle.std.proofs.Math.Path.{subst⁻¹}
 use Rattle.std.proofs.lemmas.Bool.{eqb-false, not-false}
@@ -11,8 +11,7 @@ use Rattle.layout.specs.HeadLaws.{HeadRead, passes}
 use Rattle.layout.specs.OnWords.{fits_held}
 use Rattle.calls.specs.Refusals.{Test, refusal, time_tests, set_own, clear_own, set_tests, clear_tests}
 use Rattle.calls.specs.Step.{words_read}
-use Rattle.decisions.specs.declared.Verdict.TheVariants.{Go}
-use Rattle.decisions.specs.Verdict.{verdict}
+use Rattle.decisions.specs.Verdict.{Verdict}
 use Rattle.decisions.specs.Ready.{ReadyTime, ReadySet, ReadyClear}
 use Rattle.decisions.specs.TestLaws.{numbers, NoneApplies, none_applies}
 use Rattle.decisions.specs.VerdictLaws.{gone}
@@ -25,7 +24,7 @@ none_time {ws} {s} (cons a (cons b (cons c (cons d (cons e n))))) =
     let known = leb-false _ s d in
     let later : (head_of ws).cursor.clock ≤ s = ltb-false s _ e in
     let head : HeadRead ws (head_of ws) = passes ws (ltb-false _ _ a) (omega arith) b in
-    (record { ready = record { head = head; long = long; held = fits_held (record { long = long }) head.sound.within }; not_open = known; not_early = later }, n)
+    (record { ready = record { is = refl; sound = head.sound; held = fits_held (record { long = long }) head.sound.within }; not_open = known; not_early = later }, n)
 
 none_set : {ws : List ℕ} {s tag : ℕ} → ReadyTime ws (head_of ws) s → NoneApplies (set_own (head_of ws) (words_read ws) tag) → ReadySet ws (head_of ws) s tag
 none_set t (cons a (cons b (cons c (cons d nil)))) =
@@ -36,28 +35,24 @@ none_clear : {more : ℕ} {ws : List ℕ} {s tag : ℕ} → ReadyTime ws (head_o
 none_clear t (cons a (cons b (cons c (cons d nil)))) =
     record { time = t; has_tag = leb-false _ _ a; standing = eqb-false _ _ b; sound = c; room = d }
 
--- ---- where the first tests have passed, and the head was read
-module _ (ws : List ℕ) (s : ℕ) where
-  pub passed_time : {n : ℕ} {h : Head} → refusal (time_tests ws s []) ≡ n → n ≡ 0 → h ≡ head_of ws → ReadyTime ws h s
-  passed_time e z q =
-      subst⁻¹ (λ (x : Head). ReadyTime ws x s) q (none_time {l = []} (none_applies (numbers (time_tests ws s []) refl) (e ∙ z))).0
-
-  -- ---- a verdict to go on: a clock move,
-  pub go_time : {h : Head} → verdict (time_tests ws s []) (head_of ws) ≡ Go h → ReadyTime ws h s
-  go_time {h} e = let g = gone (time_tests ws s []) (head_of ws) h e in passed_time g.0 refl g.1
+-- ---- where a call may go on from the head that was found: a clock move,
+module _ {ws : List ℕ} {s : ℕ} {h : Head} where
+  pub go_time : Verdict (time_tests ws s []) (head_of ws) (Ok h) → ReadyTime ws h s
+  go_time v = let g = gone v in
+      subst⁻¹ (λ (x : Head). ReadyTime ws x s) g.1 (none_time {l = []} (none_applies (numbers (time_tests ws s []) refl) g.0)).0
 
   -- a set,
-  pub go_set : (tag : ℕ) {h : Head} → verdict (set_tests ws (words_read ws) s tag) (head_of ws) ≡ Go h → ReadySet ws h s tag
-  go_set tag {h} e =
+  pub go_set : (tag : ℕ) → Verdict (set_tests ws (words_read ws) s tag) (head_of ws) (Ok h) → ReadySet ws h s tag
+  go_set tag v =
       let l = set_tests ws (words_read ws) s tag in
-      let g = gone l (head_of ws) h e in
+      let g = gone v in
       let n = none_time {l = set_own (head_of ws) (words_read ws) tag} (none_applies (numbers l refl) g.0) in
       subst⁻¹ (λ (x : Head). ReadySet ws x s tag) g.1 (none_set n.0 n.1)
 
   -- a clear (more = 0) or a new reading (more = 1).
-  pub go_clear : (more tag : ℕ) {h : Head} → verdict (clear_tests more ws (words_read ws) s tag) (head_of ws) ≡ Go h → ReadyClear more ws h s tag
-  go_clear more tag {h} e =
+  pub go_clear : (more tag : ℕ) → Verdict (clear_tests more ws (words_read ws) s tag) (head_of ws) (Ok h) → ReadyClear more ws h s tag
+  go_clear more tag v =
       let l = clear_tests more ws (words_read ws) s tag in
-      let g = gone l (head_of ws) h e in
+      let g = gone v in
       let n = none_time {l = clear_own more (head_of ws) (words_read ws) tag} (none_applies (numbers l refl) g.0) in
       subst⁻¹ (λ (x : Head). ReadyClear more ws x s tag) g.1 (none_clear n.0 n.1)

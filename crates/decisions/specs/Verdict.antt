@@ -1,23 +1,20 @@
--- THE VERDICT ON A CHANGE OR CLOCK MOVE: the first refusal of its table (calls.specs.Refusals), or the head from which it may go on.
-use Rattle.std.specs.Prelude.{cond, List, ◌∷◌, ℕ, eqb, ltb, length}
-use Rattle.layout.specs.declared.head.Head.{Head}
-use Rattle.layout.specs.Sizes.{layout_len}
-use Rattle.layout.specs.RefusalNumbers.{SHORT_STORE, TIME_OPEN, EARLY}
-use Rattle.calls.specs.Refusals.{Test, refusal, is_open}
-use Rattle.decisions.specs.declared.Verdict.{Verdict}
-use Rattle.decisions.specs.declared.Verdict.TheVariants.{Go, Refused}
+-- THE VERDICT ON A CALL: the first refusal of its table (calls.specs.Refusals), or what it may go on with.
+use Rattle.std.specs.Prelude.{◌≡◌, Bool, cond, List, ℕ, Result, Ok, Err}
+use Rattle.layout.specs.declared.refusal.Refusal.{Refusal}
+use Rattle.layout.specs.RefusalNumbers.{number}
+use Rattle.calls.specs.Refusals.{Test, refusal, time_tests}
+use Rattle.queries.specs.declared.opened.Opened.{Opened}
 
--- a refusal number as a verdict: 0 is none
-unfoldable pub ruled : ℕ → Head → Verdict
-ruled n h = cond (eqb n 0) (Go h) (Refused n)
+-- a is what the call goes on with where no test applies: the head as it was found or, for a start, the settings
+pub data Verdict {A : Type 0} (l : List Test) (a : A) : Result A Refusal → Type 0 where
+  go : {b : A} → refusal l ≡ 0 → b ≡ a → Verdict l a (Ok b)
+  away : {e : Refusal} → refusal l ≡ number e → Verdict l a (Err e)
 
--- the verdict of a table
-unfoldable pub verdict : List Test → Head → Verdict
-verdict l h = ruled (refusal l) h
+-- What every change and clock move begins with: the store opened, and its own tests decide; or a refusal, whatever these are.
+pub data OpensAt (ws : List ℕ) (second : ℕ) : Result Opened Refusal → Type 0 where
+  timely : {o : Opened} → o.store.now ≡ ws → ((l : List Test) → refusal (time_tests ws second l) ≡ refusal l) → OpensAt ws second (Ok o)
+  untimely : {e : Refusal} → ((l : List Test) → refusal (time_tests ws second l) ≡ number e) → OpensAt ws second (Err e)
 
--- what `time_tests` tests once the head h is read from the words
-abbrev pub time_own : Head → List ℕ → ℕ → List Test → List Test
-time_own h ws s l =
-    record { number = SHORT_STORE; applies = ltb (length ws) (layout_len h.settings) }
-    ∷ record { number = TIME_OPEN; applies = is_open s }
-    ∷ record { number = EARLY; applies = ltb s h.cursor.clock } ∷ l
+-- a new reading places a record more than a clear (`clear_tests`)
+abbrev pub more : Bool → ℕ
+more renews = cond renews 1 0

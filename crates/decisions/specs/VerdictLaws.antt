@@ -1,88 +1,65 @@
--- Verdicts join as the code does: the head first, then the second, then the change's own tests.
-use Rattle.std.specs.Prelude.{◌≡◌, refl, ◌≢◌, List, [], ◌∷◌, ℕ, ◌≤◌, ltb, length}
-use Rattle.std.proofs.Math.Path.{sym}
-use Rattle.std.proofs.Common.{ap, ◌∙◌, subst, arith, ne_eqb, ltb-false, le-ltb}
-use Rattle.std.proofs.Math.Bool.{false, cond}
-use Rattle.base.specs.Branch.{by_test, by_eqb}
-use Rattle.base.specs.Sums.{cons}
+-- Verdicts join as the code does: the store is opened first, then the second, then the change's own tests.
+use Rattle.std.specs.Prelude.{◌≡◌, refl, true, false, List, [], ◌∷◌, ℕ, eqb, ltb, leb, Ok, Err}
+use Rattle.std.proofs.Common.{sym, ap, ◌∙◌}
+use Rattle.layout.specs.declared.refusal.Refusal.{Refusal}
+use Rattle.layout.specs.declared.refusal.Refusal.TheVariants as refusal
 use Rattle.layout.specs.declared.head.Head.{Head}
-use Rattle.layout.specs.Sizes.{head_len}
-use Rattle.layout.specs.RefusalNumbers.{SHORT_HEAD, HEAD}
-use Rattle.layout.specs.Head.{head_of, bad_head, head_refusal}
-use Rattle.layout.specs.HeadLaws.{head_passes}
-use Rattle.calls.specs.Refusals.{Test, refusal, time_tests}
-use Rattle.decisions.specs.declared.Verdict.{Verdict}
-use Rattle.decisions.specs.declared.Verdict.TheVariants.{Go, Refused}
-use Rattle.decisions.specs.Verdict.{ruled, verdict, time_own}
-use Rattle.decisions.specs.TestLaws.{RefusalOf, miss, NoneApplies, numbers, none_applies, none_first, first_stays}
+use Rattle.layout.specs.Sizes.{OPEN}
+use Rattle.layout.specs.RefusalNumbers.{TIME_OPEN, EARLY, number}
+use Rattle.layout.specs.Head.{head_of}
+use Rattle.calls.specs.Refusals.{Test, refusal, time_tests, is_open}
+use Rattle.queries.specs.declared.opened.Opened.{Opened}
+use Rattle.queries.specs.Opens.{Opens, opened, shut}
+use Rattle.decisions.specs.Verdict.{Verdict, go, away, OpensAt, timely, untimely}
+use Rattle.decisions.specs.TestLaws.{RefusalOf}
 
--- ---- a verdict and its refusal number
-pub verdict_is : {l : List Test} {r : ℕ} (h : Head) → RefusalOf l r → ruled r h ≡ verdict l h
-unfolding verdict
-verdict_is h e = rw e.is
+-- To go on is to have no refusal, with what is in question; to be refused is to have that one.
+pub gone : {A : Type 0} {l : List Test} {a b : A} → Verdict l a (Ok b) → (refusal l ≡ 0) × (b ≡ a)
+gone (go e q) = (e, q)
 
--- To go on is to have no refusal, from the head in question;
-pub gone : (l : List Test) (h g : Head) → verdict l h ≡ Go g → (refusal l ≡ 0) × (g ≡ h)
-unfolding ruled verdict
-gone l h g = by_eqb (refusal l) 0
-    (λ t. cond t (Go h) (Refused (refusal l)) ≡ Go g → (refusal l ≡ 0) × (g ≡ h))
-    (λ e v. (e, cc))
-    (λ d v. let z : ◌≡◌ {A = ℕ} 0 1 = cc in absurd (omega arith))
+pub refused : {A : Type 0} {l : List Test} {a : A} {e : Refusal} → Verdict l a (Err e) → refusal l ≡ number e
+refused (away q) = q
 
--- to be refused is to have one, and that number.
-pub refused : (l : List Test) (h : Head) (n : ℕ) → verdict l h ≡ Refused n → (refusal l ≡ n) × (n ≢ 0)
-unfolding ruled verdict
-refused l h n = by_eqb (refusal l) 0
-    (λ t. cond t (Go h) (Refused (refusal l)) ≡ Refused n → (refusal l ≡ n) × (n ≢ 0))
-    (λ e v. let z : ◌≡◌ {A = ℕ} 0 1 = cc in absurd (omega arith))
-    (λ d v. let q : refusal l ≡ n = cc in (q, λ z. d (q ∙ z)))
+-- the tests of the second, and others behind them
+abbrev second_tests : List ℕ → ℕ → List Test → List Test
+second_tests ws s l = record { number = TIME_OPEN; applies = is_open s } ∷ record { number = EARLY; applies = ltb s (head_of ws).cursor.clock } ∷ l
 
-pub refused-by : (l : List Test) {n : ℕ} (h : Head) → refusal l ≡ n → n ≢ 0 → Refused n ≡ verdict l h
-unfolding ruled verdict
-refused-by l {n} h e d = rw (e, ne_eqb n 0 d)
+module _ {ws : List ℕ} {s : ℕ} where
+  -- ---- the store first, then the second
+  pub store_shut : {e : Refusal} → Opens ws (Err e) → OpensAt ws s (Err e)
+  store_shut (shut f g) = untimely (λ l. f (second_tests ws s l))
 
-pub gone_by : (l : List Test) {h g : Head} → refusal l ≡ 0 → g ≡ h → Go g ≡ verdict l h
-unfolding ruled verdict
-gone_by l e q = rw (e, q)
+  module _ {o : Opened} where
+    pub time_open : Opens ws (Ok o) → leb OPEN s ≡ true → OpensAt ws s (Err refusal.TimeOpen)
+    time_open (opened w f) a = untimely (λ l. f (second_tests ws s l) ∙ rw a)
 
--- ---- the head first
-module _ (ws : List ℕ) (s : ℕ) where
-  -- where its refusal is n, not 0, so is that of every table;
-  pub head_refused : {n : ℕ} (l : List Test) → n ≡ head_refusal ws → n ≢ 0 → RefusalOf (time_tests ws s l) n
-  unfolding head_refusal
-  head_refused {n} l = by_test (ltb (length ws) head_len)
-      (λ t. n ≡ cond t SHORT_HEAD (cond (bad_head ws) HEAD 0) → n ≢ 0
-      → RefusalOf (record { number = SHORT_HEAD; applies = t } ∷ record { number = HEAD; applies = bad_head ws } ∷ time_own (head_of ws) ws s l) n)
-      (λ a e d. record { is = sym e })
-      (λ a. by_test (bad_head ws)
-      (λ t. n ≡ cond t HEAD 0 → n ≢ 0
-      → RefusalOf (record { number = SHORT_HEAD; applies = false } ∷ record { number = HEAD; applies = t } ∷ time_own (head_of ws) ws s l) n)
-      (λ b e d. record { is = sym e })
-      (λ b e d. absurd (d e)))
+    pub time_early : Opens ws (Ok o) → leb OPEN s ≡ false → ltb s o.head.cursor.clock ≡ true → OpensAt ws s (Err refusal.Early)
+    time_early (opened w f) a b =
+        let is : o.head ≡ head_of ws = rw w at o.readable.is in
+        untimely (λ l. f (second_tests ws s l) ∙ rw (a, ← is, b))
 
-  -- where it is 0, the other tests are looked at.
-  pub head_passed : {n r : ℕ} {h : Head} (l : List Test) → n ≡ head_refusal ws → n ≡ 0 → h ≡ head_of ws → RefusalOf (time_own h ws s l) r
-      → RefusalOf (time_tests ws s l) r
-  head_passed {r = r} l e z q f =
-      let p = head_passes ws (sym e ∙ z) in
-      miss (le-ltb (length ws) head_len p.0) (miss p.1 (subst (λ (x : Head). RefusalOf (time_own x ws s l) r) q f))
+    pub time_fits : Opens ws (Ok o) → leb OPEN s ≡ false → ltb s o.head.cursor.clock ≡ false → OpensAt ws s (Ok o)
+    time_fits (opened w f) a b =
+        let is : o.head ≡ head_of ws = rw w at o.readable.is in
+        timely w (λ l. f (second_tests ws s l) ∙ rw (a, ← is, b))
 
-  -- A store that no test turns away has a head.
-  pub has_head : {r : ℕ} → RefusalOf (time_tests ws s []) r → r ≡ 0 → head_len ≤ length ws
-  has_head e z = long (none_applies (numbers (time_tests ws s []) refl) (e.is ∙ z))
-    where
-      long : {l : List Test} → NoneApplies (record { number = SHORT_HEAD; applies = ltb (length ws) head_len } ∷ l) → head_len ≤ length ws
-      long (cons a n) = ltb-false (length ws) head_len a
+    -- ---- then what is a change's own
+    same_head : OpensAt ws s (Ok o) → o.head ≡ head_of ws
+    same_head (timely w f) = rw w at o.readable.is
 
-  -- ---- then the second, then what is a change's own
-  pub time_refused : {n : ℕ} (l : List Test) → RefusalOf (time_tests ws s []) n → n ≢ 0 → Refused n ≡ verdict (time_tests ws s l) (head_of ws)
-  time_refused l e d =
-      refused-by (time_tests ws s l) (head_of ws) (first_stays (time_tests ws s []) l (λ z. d (sym e.is ∙ z)) ∙ e.is) d
+    by_own : (own : Head → List ℕ → List Test) {n : ℕ} → OpensAt ws s (Ok o) → RefusalOf (own o.head o.store.now) n
+        → refusal (time_tests ws s (own (head_of ws) ws)) ≡ n
+    by_own own (timely w f) g =
+        let is : o.head ≡ head_of ws = rw w at o.readable.is in
+        f (own (head_of ws) ws) ∙ (rw (is, w) at g.is)
 
-  pub time_passed : {n r : ℕ} {h : Head} {v : Verdict} (own : Head → List Test) → RefusalOf (time_tests ws s []) n → n ≡ 0 → h ≡ head_of ws → RefusalOf (own h) r
-      → v ≡ ruled r h → v ≡ verdict (time_tests ws s (own (head_of ws))) (head_of ws)
-  time_passed {r = r} own e z p f g =
-      let q : RefusalOf (time_tests ws s (own (head_of ws))) r = record {
-        is = none_first (own (head_of ws)) (none_applies (numbers (time_tests ws s []) refl) (e.is ∙ z)) ∙ ap (λ (x : Head). refusal (own x)) (sym p) ∙ f.is;
-      } in
-      g ∙ ap (ruled r) p ∙ verdict_is (head_of ws) q
+    pub own_refused : (own : Head → List ℕ → List Test) {e : Refusal} → OpensAt ws s (Ok o) → RefusalOf (own o.head o.store.now) (number e)
+        → Verdict (time_tests ws s (own (head_of ws) ws)) (head_of ws) (Err e)
+    own_refused own t g = away (by_own own t g)
+
+    pub own_passed : (own : Head → List ℕ → List Test) → OpensAt ws s (Ok o) → RefusalOf (own o.head o.store.now) 0
+        → Verdict (time_tests ws s (own (head_of ws) ws)) (head_of ws) (Ok o.head)
+    own_passed own t g = go (by_own own t g) (same_head t)
+
+  pub time_refused : {A : Type 0} {a : A} {e : Refusal} (l : List Test) → OpensAt ws s (Err e) → Verdict (time_tests ws s l) a (Err e)
+  time_refused l (untimely f) = away (f l)

@@ -3,58 +3,50 @@ ghost use Rattle.std.specs.Prelude.{◌≡◌, ◌+◌, ◌-◌, ◌≤◌, eqb}
 ghost use Rattle.layout.specs.Address.{Numbered};
 ghost use Rattle.layout.specs.HeadLaws.{SoundHead};
 ghost use Rattle.calls.specs.Refusals.{opens, taken_up, remaining, closes, copies};
-ghost use Rattle.decisions.specs.Ready.{words_of, Ready};
+ghost use Rattle.decisions.specs.Ready.{words_in};
+ghost use Rattle.decisions.specs.Verdict.{more};
 ghost use Rattle.decisions.specs.EffectLaws.{few_when_full};
 
-use layout::address;
 use layout::head::Head;
 use layout::standing::Standing;
+use queries::Opened;
 
 // How many records of block n stand once one has ended.
-fn remaining(store: &[u32], h: Head, n: u32) -> u32
-    requires ready { Ready store.now h }
-    requires numbered { Numbered h.settings n }
-    ensures { result ≡ remaining h (words_of h store.now) n }
+fn remaining(found: &Opened, n: u32) -> u32
+    requires { Numbered found.now.head.settings n }
+    ensures { result ≡ remaining found.now.head (words_in found.now) n }
 {
-    let standing = address::standing(store, h.settings, n).count();
-    if standing == 0 {
-        return 0;
-    }
-    standing - 1
+    found.standing(n).count().saturating_sub(1)
 }
 
 // Block n closes by a clear of one of its records: it is not the acceptor and fewer than q remain.
-pub(crate) fn closes(store: &[u32], h: Head, n: u32) -> bool
-    requires ready { Ready store.now h }
-    requires numbered { Numbered h.settings n }
-    ensures { result ≡ closes h (words_of h store.now) n }
+pub(crate) fn closes(found: &Opened, n: u32) -> bool
+    requires { Numbered found.now.head.settings n }
+    ensures { result ≡ closes found.now.head (words_in found.now) n }
 {
-    if n == h.cursor.opened {
+    if n == found.head.cursor.opened {
         return false;
     }
-    remaining(store, h, n) < h.settings.useful
+    remaining(found, n) < found.head.settings.useful
 }
 
 // The records that a clear in block n makes move: those that remain, if it closes.
-fn copies(store: &[u32], h: Head, n: u32) -> u32
-    requires ready { Ready store.now h }
-    requires numbered { Numbered h.settings n }
-    ensures { result ≡ copies h (words_of h store.now) n }
+fn copies(found: &Opened, n: u32) -> u32
+    requires { Numbered found.now.head.settings n }
+    ensures { result ≡ copies found.now.head (words_in found.now) n }
 {
-    if closes(store, h, n) {
-        return remaining(store, h, n);
+    if closes(found, n) {
+        return remaining(found, n);
     }
     0
 }
 
-// The records that a clear (more = 0) or a new reading (more = 1) in block n places.
-pub(crate) fn incoming(store: &[u32], h: Head, n: u32, more: u32) -> u32
-    requires ready { Ready store.now h }
-    requires numbered { Numbered h.settings n }
-    requires more_bound { more ≤ 1 }
-    ensures { result ≡ copies h (words_of h store.now) n + more }
+// The records that a clear or, with its own besides, a new reading in block n places.
+pub(crate) fn incoming(found: &Opened, n: u32, renews: bool) -> u32
+    requires { Numbered found.now.head.settings n }
+    ensures { result ≡ copies found.now.head (words_in found.now) n + more renews }
 {
-    copies(store, h, n) + more
+    copies(found, n) + u32::from(renews)
 }
 
 // Incoming records open a block if there are any and the acceptor has no room for all of them.
@@ -77,10 +69,8 @@ fn taken_up(b: Standing, from: u32, to: u32) -> Standing
     ensures { result ≡ taken_up b from (to - from) }
 {
     let mut taken = b;
-    let mut k = from;
-    while k < to {
+    for k in from..to {
         taken = taken.with(k);
-        k += 1;
     }
     taken
 }

@@ -1,5 +1,5 @@
-// Whether a call is accepted, by the words that it finds: the refusals of document 01, "When a call is turned away", in their order. The store is only
-// read here, on any words, also on those that no history left; a place, slot or block is looked at only once it is known to lie in the store.
+// Whether a call is accepted, by the words that it finds: the refusals of each call in their order. The store is only read here, on any words, also on
+// those that no history left; a place, slot or block is looked at only once it is known to lie in the store.
 #![tactic(auto)]
 
 mod effect;
@@ -7,100 +7,55 @@ mod own;
 mod sound;
 mod start;
 
-ghost use Rattle.std.specs.Prelude.{◌≡◌, [], ◌≤◌};
+ghost use Rattle.std.specs.Prelude.{[]};
 ghost use Rattle.layout.specs.Head.{head_of};
-ghost use Rattle.layout.specs.HeadLaws.{SoundHead};
 ghost use Rattle.calls.specs.Refusals.{time_tests, set_tests, clear_tests};
 ghost use Rattle.calls.specs.Step.{words_read};
-ghost use Rattle.decisions.specs.Verdict.{ruled, verdict, time_own};
-ghost use Rattle.decisions.specs.TestLaws.{RefusalOf};
+ghost use Rattle.decisions.specs.Verdict.{Verdict, OpensAt, more};
 
 use layout::head::Head;
-use layout::{head, refusal};
-pub use start::{StartVerdict, decide_start};
+use layout::refusal::Refusal;
+use queries::Opened;
+pub use start::decide_start;
 
-// A change or clock move that may go on from this head, or its refusal.
-#[derive(Clone, Copy)]
-pub enum Verdict {
-    Go(Head),
-    Refused(u32),
-}
-
-// A refusal number as a verdict: 0 is none.
-fn ruled(h: Head, n: u32) -> Verdict
-    ensures { result ≡ ruled n h }
+// Refusals 2 to 6, the first of every change and clock move: else the store is opened, and this second may come.
+fn open_at(store: &[u32], second: u32) -> Result<Opened<'_>, Refusal>
+    ensures { OpensAt store.now second result }
 {
-    if n == 0 {
-        return Verdict::Go(h);
-    }
-    Verdict::Refused(n)
-}
-
-// Refusals 4, 5 and 6: what is tested once the head is read.
-fn time_refusal(store: &[u32], h: Head, second: u32) -> u32
-    requires { SoundHead h }
-    ensures { RefusalOf (time_own h store.now second []) result }
-{
-    if store.len() < h.settings.words() {
-        return refusal::SHORT_STORE;
-    }
+    let found = queries::open(store)?;
     if layout::OPEN <= second {
-        return refusal::TIME_OPEN;
+        return Err(Refusal::TimeOpen);
     }
-    if second < h.cursor.clock {
-        return refusal::EARLY;
+    if second < found.head.cursor.clock {
+        return Err(Refusal::Early);
     }
-    0
+    Ok(found)
 }
 
-// Refusals 2 to 6, the first of every change: 0 if none applies.
-fn first_refusal(store: &[u32], second: u32) -> u32
-    ensures { RefusalOf (time_tests store.now second []) result }
+// A clock move: refusals 2 to 6. Else the head from which it may go on.
+pub fn decide_advance(store: &[u32], second: u32) -> Result<Head, Refusal>
+    ensures { Verdict (time_tests store.now second []) (head_of store.now) result }
 {
-    let n = head::head_refusal(store);
-    if n != 0 {
-        return n;
-    }
-    let h = head::head_of(store);
-    time_refusal(store, h, second)
-}
-
-// A clock move: refusals 2 to 6. (Tests answer a number, and the head is read after them: no head is handed from one function to the next.)
-pub fn decide_advance(store: &[u32], second: u32) -> Verdict
-    ensures { result ≡ verdict (time_tests store.now second []) (head_of store.now) }
-{
-    let n = first_refusal(store, second);
-    if n != 0 {
-        return Verdict::Refused(n);
-    }
-    Verdict::Go(head::head_of(store))
+    let found = open_at(store, second)?;
+    Ok(found.head)
 }
 
 // A set: refusals 2 to 6, then 8, 9, 12 and 13.
-pub fn decide_set(store: &[u32], second: u32, tag: u32) -> Verdict
-    ensures { result ≡ verdict (set_tests store.now (words_read store.now) second tag)
-        (head_of store.now) }
+pub fn decide_set(store: &[u32], second: u32, tag: u32) -> Result<Head, Refusal>
+    ensures { Verdict (set_tests store.now (words_read store.now) second tag)
+        (head_of store.now) result }
 {
-    let n = first_refusal(store, second);
-    if n != 0 {
-        return Verdict::Refused(n);
-    }
-    let h = head::head_of(store);
-    let m = own::set_refusal(store, h, tag);
-    ruled(h, m)
+    let found = open_at(store, second)?;
+    own::test_set(&found, tag)?;
+    Ok(found.head)
 }
 
-// A clear (more = 0: it places copies only) or a new reading (more = 1: it places its record besides): refusals 2 to 6, then 8, 10, 12 and 13.
-pub fn decide_clearing(store: &[u32], second: u32, tag: u32, more: u32) -> Verdict
-    requires { more ≤ 1 }
-    ensures { result ≡ verdict (clear_tests more store.now (words_read store.now) second tag)
-        (head_of store.now) }
+// A clear, which places copies only, or a new reading, which places its record besides: refusals 2 to 6, then 8, 10, 12 and 13.
+pub fn decide_clearing(store: &[u32], second: u32, tag: u32, renews: bool) -> Result<Head, Refusal>
+    ensures { Verdict (clear_tests (more renews) store.now (words_read store.now) second tag)
+        (head_of store.now) result }
 {
-    let n = first_refusal(store, second);
-    if n != 0 {
-        return Verdict::Refused(n);
-    }
-    let h = head::head_of(store);
-    let m = own::clear_refusal(store, h, tag, more);
-    ruled(h, m)
+    let found = open_at(store, second)?;
+    own::test_clear(&found, tag, renews)?;
+    Ok(found.head)
 }

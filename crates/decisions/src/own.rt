@@ -1,14 +1,18 @@
-// A change's own refusals, once the head and the second have passed: 0 if none applies.
-ghost use Rattle.std.specs.Prelude.{◌≡◌, ◌≤◌, leb};
+// A change's own tests, once the store is opened and the second has passed.
+ghost use Rattle.std.specs.Prelude.{◌≡◌, leb};
+ghost use Rattle.layout.specs.RefusalNumbers.{refused};
 ghost use Rattle.calls.specs.Refusals.{set_own, clear_own};
-ghost use Rattle.decisions.specs.Ready.{words_of, Ready, PlaceOf};
+ghost use Rattle.decisions.specs.Ready.{words_in, PlaceOf};
+ghost use Rattle.decisions.specs.Verdict.{more};
 ghost use Rattle.decisions.specs.TestLaws.{RefusalOf};
 ghost use Rattle.decisions.specs.SoundLaws.{out_test, ending_tests};
 
 use crate::{effect, sound};
 use layout::address::Address;
 use layout::head::Head;
-use layout::{address, place, refusal};
+use layout::place;
+use layout::refusal::Refusal;
+use queries::Opened;
 
 // Refusal 8: the tag is D or more.
 fn beyond_tags(h: Head, tag: u32) -> bool
@@ -18,71 +22,69 @@ fn beyond_tags(h: Head, tag: u32) -> bool
 }
 
 // Refusal 13 where a block opens.
-fn opening_refusal(h: Head) -> u32
-    ensures { RefusalOf (out_test h) result }
+fn test_opening(h: Head) -> Result<(), Refusal>
+    ensures { RefusalOf (out_test h) (refused result) }
 {
     if effect::all_opened(h) {
-        return refusal::OUT_OF_BLOCKS;
+        return Err(Refusal::OutOfBlocks);
     }
-    0
+    Ok(())
 }
 
 // Refusals 8, 9, 12 and 13 of a set. Most sets open no block: for these the acceptor is not looked at.
-pub(crate) fn set_refusal(store: &[u32], h: Head, tag: u32) -> u32
-    requires { Ready store.now h }
-    ensures { RefusalOf (set_own h (words_of h store.now) tag) result }
+pub(crate) fn test_set(found: &Opened, tag: u32) -> Result<(), Refusal>
+    ensures { RefusalOf (set_own found.now.head (words_in found.now) tag) (refused result) }
 {
+    let h = found.head;
     if beyond_tags(h, tag) {
-        return refusal::TAG;
+        return Err(Refusal::Tag);
     }
-    if address::read(store, h.settings, Address::Dir(tag)) != 0 {
-        return refusal::STANDING;
+    if found.read(Address::Dir(tag)) != 0 {
+        return Err(Refusal::Standing);
     }
     if !effect::opens(h, 1) {
-        return 0;
+        return Ok(());
     }
-    if sound::unsound_for_set(store, h) {
-        return refusal::UNSOUND;
+    if sound::unsound_for_set(found) {
+        return Err(Refusal::Unsound);
     }
-    opening_refusal(h)
+    test_opening(h)
 }
 
-// Refusals 12 and 13 of a clear (more = 0) or a new reading (more = 1) of the tag at place p. Most of them open no block, too.
-fn ending_refusal(store: &[u32], h: Head, tag: u32, p: u32, more: u32) -> u32
-    requires ready { Ready store.now h }
-    requires place_of { PlaceOf h store.now tag p }
-    requires more_bound { more ≤ 1 }
-    ensures { RefusalOf (ending_tests more h (words_of h store.now) tag) result }
+// Refusals 12 and 13 of a clear or a new reading of the tag at place p. Most of them open no block, too.
+fn test_ending(found: &Opened, tag: u32, p: u32, renews: bool) -> Result<(), Refusal>
+    requires { PlaceOf found.now tag p }
+    ensures { RefusalOf (ending_tests (more renews) found.now.head (words_in found.now) tag) (refused result) }
 {
-    if sound::place_is_bad(store, h, tag, p) {
-        return refusal::UNSOUND;
+    let h = found.head;
+    if sound::place_is_bad(found, tag, p) {
+        return Err(Refusal::Unsound);
     }
     let n = place::block_of(h.settings, p);
-    if sound::closing_is_bad(store, h, n) {
-        return refusal::UNSOUND;
+    if sound::closing_is_bad(found, n) {
+        return Err(Refusal::Unsound);
     }
-    let incoming = effect::incoming(store, h, n, more);
+    let incoming = effect::incoming(found, n, renews);
     if !effect::opens(h, incoming) {
-        return 0;
+        return Ok(());
     }
-    if sound::unsound_after_clear(store, h, tag, p) {
-        return refusal::UNSOUND;
+    if sound::unsound_after_clear(found, tag, p) {
+        return Err(Refusal::Unsound);
     }
-    opening_refusal(h)
+    test_opening(h)
 }
 
-// Refusals 8, 10, 12 and 13 of a clear (more = 0) or a new reading (more = 1).
-pub(crate) fn clear_refusal(store: &[u32], h: Head, tag: u32, more: u32) -> u32
-    requires ready { Ready store.now h }
-    requires more_bound { more ≤ 1 }
-    ensures { RefusalOf (clear_own more h (words_of h store.now) tag) result }
+// Refusals 8, 10, 12 and 13 of a clear or a new reading.
+pub(crate) fn test_clear(found: &Opened, tag: u32, renews: bool) -> Result<(), Refusal>
+    ensures { RefusalOf (clear_own (more renews) found.now.head (words_in found.now) tag) (refused result) }
 {
+    let h = found.head;
     if beyond_tags(h, tag) {
-        return refusal::TAG;
+        return Err(Refusal::Tag);
     }
-    let p = address::read(store, h.settings, Address::Dir(tag));
+    let p = found.read(Address::Dir(tag));
     if p == 0 {
-        return refusal::NOT_STANDING;
+        return Err(Refusal::NotStanding);
     }
-    ending_refusal(store, h, tag, p, more)
+    test_ending(found, tag, p, renews)
 }

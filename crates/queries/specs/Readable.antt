@@ -3,6 +3,7 @@ use Rattle.std.specs.Prelude.{◌≡◌, List, ℕ}
 use Rattle.std.proofs.Props.{props}
 use Rattle.layout.specs.declared.settings.Settings.{Settings}
 use Rattle.layout.specs.declared.head.Head.{Head}
+use Rattle.layout.specs.Memory.{Memory}
 use Rattle.layout.specs.Head.{head_of}
 use Rattle.layout.specs.HeadLaws.{SoundHead}
 use Rattle.layout.specs.OnWords.{over, Held}
@@ -12,6 +13,10 @@ pub record Readable (ws : List ℕ) (h : Head) : Type 0 where
   pub is : h ≡ head_of ws
   pub sound : SoundHead h
   pub held : Held h.settings ws
+
+-- the words as a memory, by the settings of a head
+abbrev pub words_of : Head → List ℕ → Memory
+words_of h ws = (over h.settings).read ws
 
 -- the same of the blocks alone: s are the settings in the head
 pub record Blocks (ws : List ℕ) (s : Settings) : Type 0 where

@@ -1,30 +1,25 @@
--- `decide_set` meets its contract: the head and the second first, then its own tests.
+-- `decide_set` meets its contract: the store and the second first, then its own tests.
+use mathlib.Core.List.{List}
+use Prim.Native.Nat.{ℕ}
+use Rattle.std.proofs.lemmas.Result.{err_from_is_err_and}
+use Rattle.layout.specs.declared.head.Head.{Head}
 use Rattle.layout.specs.Head.{head_of}
 use Rattle.calls.specs.Refusals.{set_own}
-use Rattle.calls.specs.Step.{words_read}
-use Rattle.decisions.specs.Ready.{words_of}
-use Rattle.decisions.specs.VerdictLaws.{time_refused, time_passed, has_head}
-use Rattle.decisions.specs.ReadyLaws.{passed_time}
+use Rattle.queries.specs.Readable.{words_of}
+use Rattle.decisions.specs.Verdict.{more}
+use Rattle.decisions.specs.VerdictLaws.{time_refused, own_refused, own_passed}
 use Rattle.decisions.proofs.decide_set.Goals as goal
 
-pub returns-then-n-ne0 : goal.returns-then-n-ne0
-returns-then-n-ne0 c =
-    let a = c.args in
-    time_refused a.store.now a.second (set_own (head_of a.store.now) (words_read a.store.now) a.tag)
-    c.first_refusal-n.ensures c.if-n-ne0.true
+pub returns-in_err-found : goal.returns-in_err-found
+returns-in_err-found c =
+    let p = err_from_is_err_and c.from_residual.result c.from_residual.ensures.1 in
+    let ws = c.args.store.now in let h = head_of ws in
+    rw (p.1, p.2) (time_refused (set_own h (words_of h ws) c.args.tag) c.in_err-found.ensures)
 
-pub head_of-h-requires : goal.head_of-h-requires
-head_of-h-requires c =
-    let a = c.args in has_head a.store.now a.second c.first_refusal-n.ensures c.if-n-ne0.false
-
-pub set_refusal-m-requires : goal.set_refusal-m-requires
-set_refusal-m-requires c =
-    (passed_time c.args.store.now c.args.second c.first_refusal-n.ensures.is c.if-n-ne0.false
-    c.head_of-h.ensures).ready
+pub returns-in_err-test_set : goal.returns-in_err-test_set
+returns-in_err-test_set c =
+    let p = err_from_is_err_and c.from_residual-in_err-test_set.result c.from_residual-in_err-test_set.ensures.1 in
+    rw (p.1, p.2) (own_refused (λ (h : Head) (ws : List ℕ). set_own h (words_of h ws) c.args.tag) c.in_ok-found.ensures c.in_err-test_set.ensures)
 
 pub returns : goal.returns
-returns c =
-    let a = c.args in
-    time_passed a.store.now a.second (λ x. set_own x (words_of x a.store.now) a.tag)
-    c.first_refusal-n.ensures c.if-n-ne0.false c.head_of-h.ensures
-    c.set_refusal-m.ensures c.ruled.ensures
+returns c = own_passed (λ (h : Head) (ws : List ℕ). set_own h (words_of h ws) c.args.tag) c.in_ok-found.ensures c.in_ok-test_set.ensures

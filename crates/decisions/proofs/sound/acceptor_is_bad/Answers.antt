@@ -4,9 +4,9 @@ use Rattle.decisions.specs.SoundLaws.{bad-acceptor}
 use Rattle.decisions.proofs.sound.acceptor_is_bad.Goals as goal
 
 pub returns-then-not-few_when_full : goal.returns-then-not-few_when_full
-returns-then-not-few_when_full c = sym (bad-acceptor _ _ _ c.requires.le_opened (sym c.few_when_full.ensures ∙ c.if-not-few_when_full.true))
+returns-then-not-few_when_full c = sym (bad-acceptor _ _ _ c.requires (sym c.few_when_full.ensures ∙ c.if-not-few_when_full.true))
 
 pub returns : goal.returns
 returns c =
     c.block_is_bad.ensures
-    ∙ sym (bad-acceptor _ _ _ c.requires.le_opened (sym c.few_when_full.ensures ∙ c.if-not-few_when_full.false))
+    ∙ sym (bad-acceptor _ _ _ c.requires (sym c.few_when_full.ensures ∙ c.if-not-few_when_full.false))

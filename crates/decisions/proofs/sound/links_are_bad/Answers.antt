@@ -5,20 +5,20 @@ use Rattle.decisions.specs.SoundLaws.{bad-links, not_leb}
 use Rattle.decisions.proofs.sound.links_are_bad.Goals as goal
 
 pub returns-then-n-read : goal.returns-then-n-read
-returns-then-n-read c = sym (bad-links _ _ _ c.read.ensures.value refl (le-leb _ _ c.if-n-read.true) refl refl refl)
+returns-then-n-read c = sym (bad-links _ _ _ (sym c.read.ensures) refl (le-leb _ _ c.if-n-read.true) refl refl refl)
 
-pub returns-then-n-h : goal.returns-then-n-h
-returns-then-n-h c =
-    sym (bad-links _ _ _ c.read.ensures.value refl (lt-leb _ _ c.if-n-read.false)
-    (eq-eqb _ _ c.if-n-h.true) refl refl)
+pub returns-then-n-found : goal.returns-then-n-found
+returns-then-n-found c =
+    sym (bad-links _ _ _ (sym c.read.ensures) refl (lt-leb _ _ c.if-n-read.false)
+    (eq-eqb _ _ c.if-n-found.true) refl refl)
 
 pub returns-then-right-n : goal.returns-then-right-n
 returns-then-right-n c =
-    sym (bad-links _ _ _ c.read.ensures.value c.read-right.ensures.value
-    (lt-leb _ _ c.if-n-read.false) (ne_eqb _ _ c.if-n-h.false) (le-ltb _ _ c.if-right-n.true) refl)
+    sym (bad-links _ _ _ (sym c.read.ensures) (sym c.read-right.ensures)
+    (lt-leb _ _ c.if-n-read.false) (ne_eqb _ _ c.if-n-found.false) (le-ltb _ _ c.if-right-n.true) refl)
 
 pub returns : goal.returns
-returns c = not_leb c.read-right.result c.args.h.cursor.opened
-    ∙ sym (bad-links _ _ _ c.read.ensures.value c.read-right.ensures.value
-    (lt-leb _ _ c.if-n-read.false) (ne_eqb _ _ c.if-n-h.false)
+returns c = not_leb c.read-right.result c.args.found.now.head.cursor.opened
+    ∙ sym (bad-links _ _ _ (sym c.read.ensures) (sym c.read-right.ensures)
+    (lt-leb _ _ c.if-n-read.false) (ne_eqb _ _ c.if-n-found.false)
     (lt-ltb _ _ c.if-right-n.false) refl)

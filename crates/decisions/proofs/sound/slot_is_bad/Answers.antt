@@ -3,10 +3,10 @@ use borrow.Author.Tests.{le-leb, lt-leb}
 use Rattle.decisions.specs.SoundLaws.{bad_slot}
 use Rattle.decisions.proofs.sound.slot_is_bad.Goals as goal
 
-pub returns-then-h-k : goal.returns-then-h-k
+pub returns-then-found-k : goal.returns-then-found-k
 unfolding bad_slot
-returns-then-h-k c = simp (le-leb _ _ c.if-h-k.true)
+returns-then-found-k c = simp (le-leb _ _ c.if-found-k.true)
 
 pub returns : goal.returns
 unfolding bad_slot
-returns c = simp (lt-leb _ _ c.if-h-k.false, c.read.ensures.value)
+returns c = simp (lt-leb _ _ c.if-found-k.false, c.read.ensures)

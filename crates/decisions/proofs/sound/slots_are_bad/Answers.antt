@@ -3,22 +3,22 @@ use native.Mathlib.Omega.{arith}
 use Rattle.decisions.specs.SoundLaws.{look_begin, look_none, look_found, look_on, look_fewer}
 use Rattle.decisions.proofs.sound.slots_are_bad.Goals as goal
 
-pub loop-h-init : goal.loop-h-init
-loop-h-init c = look_begin (omega arith) (omega arith) c.standing-left.ensures
+pub loop-left-init : goal.loop-left-init
+loop-left-init c = look_begin (omega arith) (omega arith) c.standing-left.ensures
 
 pub returns-then-slot_is_bad : goal.returns-then-slot_is_bad
 returns-then-slot_is_bad c =
-    look_found c.loop-h.invariant c.is_empty.ensures c.loop-h-test.true-raw c.first.ensures
+    look_found c.loop-left.invariant c.is_empty.ensures c.loop-left-test.true-raw c.first.ensures
     c.slot_is_bad.ensures c.if-slot_is_bad.true
 
-pub loop-h-smaller : goal.loop-h-smaller
-loop-h-smaller c =
-    look_fewer c.loop-h.invariant c.is_empty.ensures c.loop-h-test.true-raw c.first.ensures c.rest-left.ensures
+pub loop-left-smaller : goal.loop-left-smaller
+loop-left-smaller c =
+    look_fewer c.loop-left.invariant c.is_empty.ensures c.loop-left-test.true-raw c.first.ensures c.rest-left.ensures
 
-pub loop-h-preserved : goal.loop-h-preserved
-loop-h-preserved c =
-    look_on c.loop-h.invariant c.is_empty.ensures c.loop-h-test.true-raw c.first.ensures
+pub loop-left-preserved : goal.loop-left-preserved
+loop-left-preserved c =
+    look_on c.loop-left.invariant c.is_empty.ensures c.loop-left-test.true-raw c.first.ensures
     c.slot_is_bad.ensures c.if-slot_is_bad.false c.rest-left.ensures
 
 pub returns : goal.returns
-returns c = look_none c.loop-h.invariant c.is_empty.ensures c.loop-h-test.false-raw
+returns c = look_none c.loop-left.invariant c.is_empty.ensures c.loop-left-test.false-raw

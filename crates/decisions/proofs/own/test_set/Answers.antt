@@ -1,33 +1,33 @@
--- `own::set_refusal` meets its contract: refusals 8 and 9, then 12 and 13 if a block opens.
+-- `own::test_set` meets its contract: refusals 8 and 9, then 12 and 13 if a block opens.
 use mathlib.Core.Path.{sym, ap, ◌∙◌}
 use mathlib.Core.Bool.{not}
 use borrow.Author.Tests.{leb-false}
 use Rattle.decisions.specs.SoundLaws.{set_opens, set_rests, out_opens, out_rests}
 use Rattle.decisions.specs.TestLaws.{hit, miss, none, zero_is, zero_not}
-use Rattle.decisions.proofs.own.set_refusal.Goals as goal
+use Rattle.decisions.proofs.own.test_set.Goals as goal
 
 pub returns-then-beyond_tags : goal.returns-then-beyond_tags
 returns-then-beyond_tags c = hit (sym c.beyond_tags.ensures ∙ c.if-beyond_tags.true)
 
 pub read-requires : goal.read-requires
-read-requires c = record { valid = leb-false _ _ (sym c.beyond_tags.ensures ∙ c.if-beyond_tags.false); held = c.requires.held }
+read-requires c = leb-false _ _ (sym c.beyond_tags.ensures ∙ c.if-beyond_tags.false)
 
 pub returns-then-read-ne0 : goal.returns-then-read-ne0
 returns-then-read-ne0 c =
     miss (sym c.beyond_tags.ensures ∙ c.if-beyond_tags.false)
-    (hit (ap not (zero_not c.read.ensures.value c.if-read-ne0.true)))
+    (hit (ap not (zero_not (sym c.read.ensures) c.if-read-ne0.true)))
 
 pub returns-then-not-opens : goal.returns-then-not-opens
 returns-then-not-opens c =
     let rests = sym c.opens.ensures ∙ c.if-not-opens.true in
     miss (sym c.beyond_tags.ensures ∙ c.if-beyond_tags.false)
-    (miss (ap not (zero_is c.read.ensures.value c.if-read-ne0.false))
+    (miss (ap not (zero_is (sym c.read.ensures) c.if-read-ne0.false))
     (miss (set_rests _ _ rests) (miss (out_rests _ 1 rests) none)))
 
 pub returns-then-unsound_for_set : goal.returns-then-unsound_for_set
 returns-then-unsound_for_set c =
     miss (sym c.beyond_tags.ensures ∙ c.if-beyond_tags.false)
-    (miss (ap not (zero_is c.read.ensures.value c.if-read-ne0.false))
+    (miss (ap not (zero_is (sym c.read.ensures) c.if-read-ne0.false))
     (hit (set_opens _ _ (sym c.opens.ensures ∙ c.if-not-opens.false)
     (sym c.unsound_for_set.ensures ∙ c.if-unsound_for_set.true))))
 
@@ -35,6 +35,6 @@ pub returns : goal.returns
 returns c =
     let opening = sym c.opens.ensures ∙ c.if-not-opens.false in
     miss (sym c.beyond_tags.ensures ∙ c.if-beyond_tags.false)
-    (miss (ap not (zero_is c.read.ensures.value c.if-read-ne0.false))
+    (miss (ap not (zero_is (sym c.read.ensures) c.if-read-ne0.false))
     (miss (set_opens _ _ opening (sym c.unsound_for_set.ensures ∙ c.if-unsound_for_set.false))
-    (out_opens _ 1 opening c.opening_refusal.ensures)))
+    (out_opens _ 1 opening c.test_opening.ensures)))

@@ -1,0 +1,6 @@
+-- `Opened::block` meets its contract: the part of the store is the reader's block.
+use Rattle.queries.specs.BlockLaws.{block_is}
+use Rattle.queries.proofs.opened.Opened.block.Goals as goal
+
+pub returns-clause-read : goal.returns-clause-read
+returns-clause-read c = block_is c.args.self.now.readable c.block.ensures
