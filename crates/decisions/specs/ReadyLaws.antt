@@ -1,6 +1,6 @@
 -- What a call that may go on finds: no refusal of its table applies, as facts about the words.
-use Rattle.std.specs.Prelude.{◌≡◌, refl, List, [], ℕ, ◌≤◌, length, Ok}
-use Rattle.std.proofs.Common.{◌∙◌, arith, ltb-false, leb-false, eqb-true}
+use Rattle.std.specs.Prelude.{refl, List, [], ℕ, ◌≤◌, length, Ok}
+use Rattle.std.proofs.Common.{arith, ltb-false, leb-false, eqb-true}
 use Rattle.std.proofs.Math.Path.{subst⁻¹}
 use Rattle.std.proofs.lemmas.Bool.{eqb-false, not-false}
 use Rattle.base.specs.Sums.{nil, cons}
@@ -9,7 +9,7 @@ use Rattle.layout.specs.Sizes.{layout_len}
 use Rattle.layout.specs.Head.{head_of}
 use Rattle.layout.specs.HeadLaws.{HeadRead, passes}
 use Rattle.layout.specs.OnWords.{fits_held}
-use Rattle.calls.specs.Refusals.{Test, refusal, time_tests, set_own, clear_own, set_tests, clear_tests}
+use Rattle.calls.specs.Refusals.{Test, time_tests, set_own, clear_own, set_tests, clear_tests}
 use Rattle.calls.specs.Step.{words_read}
 use Rattle.decisions.specs.Verdict.{Verdict}
 use Rattle.decisions.specs.Ready.{ReadyTime, ReadySet, ReadyClear}

@@ -1,10 +1,10 @@
 -- The verdict on a start, as the code goes: the settings first, then the store. What a start that may go on finds.
 use Rattle.std.proofs.Math.Path.{◌≡◌, ap}
 use Rattle.std.specs.Prelude.{refl, true, List, [], ◌∷◌, ℕ, ◌≤◌, ltb, length, Result, Ok, Err}
-use Rattle.std.proofs.Common.{sym, ◌∙◌, arith}
+use Rattle.std.proofs.Common.{arith}
 use Rattle.std.proofs.Math.Bool.{cond, not}
 use borrow.Author.Tests.{ltb-false, not-false}
-use Rattle.base.specs.Branch.{by_test, by_eqb}
+use Rattle.base.specs.Branch.{by_test}
 use Rattle.base.specs.Sums.{nil, cons}
 use Rattle.layout.specs.declared.settings.Settings.{Settings}
 use Rattle.layout.specs.declared.refusal.Refusal.{Refusal}

@@ -1,6 +1,6 @@
 -- Verdicts join as the code does: the store is opened first, then the second, then the change's own tests.
-use Rattle.std.specs.Prelude.{◌≡◌, refl, true, false, List, [], ◌∷◌, ℕ, eqb, ltb, leb, Ok, Err}
-use Rattle.std.proofs.Common.{sym, ap, ◌∙◌}
+use Rattle.std.specs.Prelude.{◌≡◌, true, false, List, ◌∷◌, ℕ, ltb, leb, Ok, Err}
+use Rattle.std.proofs.Common.{◌∙◌}
 use Rattle.layout.specs.declared.refusal.Refusal.{Refusal}
 use Rattle.layout.specs.declared.refusal.Refusal.TheVariants as refusal
 use Rattle.layout.specs.declared.head.Head.{Head}

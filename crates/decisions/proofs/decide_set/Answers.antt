@@ -6,7 +6,6 @@ use Rattle.layout.specs.declared.head.Head.{Head}
 use Rattle.layout.specs.Head.{head_of}
 use Rattle.calls.specs.Refusals.{set_own}
 use Rattle.queries.specs.Readable.{words_of}
-use Rattle.decisions.specs.Verdict.{more}
 use Rattle.decisions.specs.VerdictLaws.{time_refused, own_refused, own_passed}
 use Rattle.decisions.proofs.decide_set.Goals as goal
 

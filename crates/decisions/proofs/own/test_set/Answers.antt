@@ -1,21 +1,9 @@
 -- `own::test_set` meets its contract: refusals 8 and 9, then 12 and 13 if a block opens.
 use mathlib.Core.Path.{sym, ap, ◌∙◌}
 use mathlib.Core.Bool.{not}
-use borrow.Author.Tests.{leb-false}
 use Rattle.decisions.specs.SoundLaws.{set_opens, set_rests, out_opens, out_rests}
-use Rattle.decisions.specs.TestLaws.{hit, miss, none, zero_is, zero_not}
+use Rattle.decisions.specs.TestLaws.{hit, miss, none, zero_is}
 use Rattle.decisions.proofs.own.test_set.Goals as goal
-
-pub returns-then-beyond_tags : goal.returns-then-beyond_tags
-returns-then-beyond_tags c = hit (sym c.beyond_tags.ensures ∙ c.if-beyond_tags.true)
-
-pub read-requires : goal.read-requires
-read-requires c = leb-false _ _ (sym c.beyond_tags.ensures ∙ c.if-beyond_tags.false)
-
-pub returns-then-read-ne0 : goal.returns-then-read-ne0
-returns-then-read-ne0 c =
-    miss (sym c.beyond_tags.ensures ∙ c.if-beyond_tags.false)
-    (hit (ap not (zero_not (sym c.read.ensures) c.if-read-ne0.true)))
 
 pub returns-then-not-opens : goal.returns-then-not-opens
 returns-then-not-opens c =

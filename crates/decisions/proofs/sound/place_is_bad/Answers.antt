@@ -26,9 +26,6 @@ returns-then-read-tag c =
 pub standing-requires : goal.standing-requires
 standing-requires c = numbered_at (place_lies _ _ c.args.found.now.readable.sound c.requires.some (omega (arith, c.placed.ensures, c.if-placed-p.false))) c.block_of-n.ensures
 
-pub has-requires : goal.has-requires
-has-requires c = omega (arith, slot_at (place_lies _ _ c.args.found.now.readable.sound c.requires.some (omega (arith, c.placed.ensures, c.if-placed-p.false))) c.slot_of-k.ensures, c.args.found.now.readable.sound.within.most)
-
 pub returns : goal.returns
 returns c =
     sym (bad-place _ _ _ c.requires.is

@@ -1,10 +1,6 @@
 -- `sound::slots_are_bad` meets its contract: a look at each standing slot, in order.
-use native.Mathlib.Omega.{arith}
-use Rattle.decisions.specs.SoundLaws.{look_begin, look_none, look_found, look_on, look_fewer}
+use Rattle.decisions.specs.SoundLaws.{look_none, look_found, look_on, look_fewer}
 use Rattle.decisions.proofs.sound.slots_are_bad.Goals as goal
-
-pub loop-left-init : goal.loop-left-init
-loop-left-init c = look_begin (omega arith) (omega arith) c.standing-left.ensures
 
 pub returns-then-slot_is_bad : goal.returns-then-slot_is_bad
 returns-then-slot_is_bad c =

@@ -6,6 +6,3 @@ use Rattle.decisions.proofs.sound.unsound_for_set.Goals as goal
 pub returns-then-found-eq0 : goal.returns-then-found-eq0
 unfolding bad_acceptor
 returns-then-found-eq0 c = simp (eq-eqb _ _ c.if-found-eq0.true)
-
-pub returns : goal.returns
-returns c = simp (c.acceptor_is_bad.ensures, c.standing-b.ensures)

@@ -1,5 +1,4 @@
 -- `start::decide_start` meets its contract: the settings first, then the store.
-use mathlib.Core.Path.{sym, ◌∙◌}
 use lib.ListN.{length}
 use borrow.Author.Tests.{lt-ltb, le-ltb}
 use Rattle.std.proofs.lemmas.Result.{err_from_is_err_and}
