@@ -1,5 +1,6 @@
 -- The tests of refusal 12 by their parts: where one decides, the rest may stay as they are (`refl`).
 use Rattle.std.specs.Prelude.{◌≡◌, refl, ◌≢◌, Bool, true, false, not, ◌&&◌, ◌||◌, List, [], ◌∷◌, ℕ, ◌+◌, ◌^◌, ◌≤◌, ◌<◌, eqb, ltb, leb, length}
+use Rattle.std.specs.List.{list_any}
 use Rattle.std.proofs.Common.{sym, ◌∙◌, subst, arith, ltb-false, lt-ltb, le-ltb, le-leb, eq-eqb, ne_eqb}
 use Rattle.std.proofs.Math.Path.{ap, subst⁻¹}
 use Rattle.std.proofs.lemmas.Bool.{not-true, not-false, lt-leb}
@@ -54,36 +55,6 @@ pub record Ending (more : ℕ) (h : Head) (f : Memory) (tag p n i : ℕ) : Type 
 -- not up to it is above it
 pub not_leb : (a b : ℕ) → ltb b a ≡ not (leb a b)
 not_leb a b = lt? b a (λ l. simp (lt-ltb b a l, lt-leb a b l)) (λ l. simp (le-ltb b a l, le-leb a b l))
-
--- ---- one of the standing slots has p: a look at each, in slot order. Of the slots left one has p if one of all has it.
-pub record LookedAt (p : ℕ → Bool) (all left : Standing) : Type 0 where
-  pub words : TwoWords left
-  pub same : any_of p (slots left) ≡ any_of p (slots all)
-
-pub look_begin : {p : ℕ → Bool} {all left : Standing} → left.low < 2 ^ 32 → left.high < 2 ^ 32 → left ≡ all → LookedAt p all left
-look_begin {p} l h e = record { words = record { low = l; high = h }; same = ap (λ (b : Standing). any_of p (slots b)) e }
-
--- t is the answer of `is_empty`
-module _ {p : ℕ → Bool} {all left : Standing} {t : Bool} (l : LookedAt p all left) (is-empty : t ≡ empty.none left) where
-  pub look_none : not t ≡ false → false ≡ any_of p (slots all)
-  look_none e = let z : any_of p (slots left) ≡ false = rw (slots_empty left (sym is-empty ∙ not-false t e)) in sym z ∙ l.same
-
-  module _ {k : ℕ} (e : not t ≡ true) (first : k ≡ first_slot left) where
-    some : empty.none left ≡ false
-    some = sym is-empty ∙ not-true t e
-
-    -- the first has p, or the others are left
-    next : {b : Bool} → p k ≡ b → any_of p (slots left) ≡ (b || any_of p (slots (other_slots left)))
-    next x = rw (slots_next left l.words some, ← first, x)
-
-    pub look_found : {b : Bool} → b ≡ p k → b ≡ true → true ≡ any_of p (slots all)
-    look_found x g = sym (next (sym x ∙ g)) ∙ l.same
-
-    pub look_on : {b : Bool} {rest : Standing} → b ≡ p k → b ≡ false → rest ≡ other_slots left → LookedAt p all rest
-    look_on x g q = rw q (record { words = other_words left l.words; same = sym (next (sym x ∙ g)) ∙ l.same })
-
-    pub look_fewer : {rest : Standing} → rest ≡ other_slots left → length (slots rest) < length (slots left)
-    look_fewer q = rw q (omega (arith, other_fewer left l.words some))
 
 -- ---- refusal 13: where a block opens, its own test; else it does not apply
 pub out_opens : (h : Head) (i : ℕ) {r : ℕ} → opens h i ≡ true → RefusalOf (out_test h) r → RefusalOf (record { number = OUT_OF_BLOCKS; applies = blocks_out h i } ∷ []) r
@@ -188,3 +159,8 @@ module _ (h : Head) (f : Memory) where
   unfolding bad_place
   place_in tag {p} g e a b =
       place_lies h p g a (rw e (ltb-false (placed h) (f (Dir tag)) (or-false (ltb (placed h) (f (Dir tag))) _ (or-false _ _ b).0).0))
+
+-- one of a list, as the library says it
+pub any_listed : {A : Type 0} (p : A → Bool) (l : List A) → list_any p l ≡ any_of p l
+any_listed p [] = refl
+any_listed p (x ∷ l) = rw (any_listed p l) refl

@@ -64,14 +64,7 @@ fn slots_are_bad(found: &Opened, n: u32) -> bool
     ensures { result ≡ any_of (bad_slot found.now.head (words_in found.now) n)
         (slots (block_bits (words_in found.now) n)) }
 {
-    let mut left = found.standing(n);
-    while !left.is_empty() {
-        if slot_is_bad(found, n, left.first()) {
-            return true;
-        }
-        left = left.rest();
-    }
-    false
+    found.standing(n).slots().any(|k| slot_is_bad(found, n, k))
 }
 
 // What is unsound of a block that will close.

@@ -1,20 +1,22 @@
--- `sound::slots_are_bad` meets its contract: a look at each standing slot, in order.
-use Rattle.decisions.specs.SoundLaws.{look_none, look_found, look_on, look_fewer}
+-- `sound::slots_are_bad` meets its contract: a look at each standing slot, in order, until one is bad.
+use mathlib.Core.Path.{sym, ap, ◌∙◌}
+use Prim.Native.Nat.{ℕ}
+use Rattle.std.proofs.Common.{rules}
+use Rattle.std.proofs.lemmas.Iterator.Search.{any_from_yields_List}
+use Rattle.std.proofs.lemmas.Iterator.Consumers.{YieldsList-from_first}
+use Rattle.layout.specs.declared.standing.Standing.{Standing}
+use Rattle.layout.specs.Standing.{slots}
+use Rattle.layout.specs.SlotsLeft.{slots_left}
+use Rattle.calls.specs.Refusals.{any_of}
+use Rattle.decisions.specs.Ready.{words_in}
+use Rattle.decisions.specs.SoundLaws.{bad_slot, any_listed}
 use Rattle.decisions.proofs.sound.slots_are_bad.Goals as goal
 
-pub returns-then-slot_is_bad : goal.returns-then-slot_is_bad
-returns-then-slot_is_bad c =
-    look_found c.loop-left.invariant c.is_empty.ensures c.loop-left-test.true-raw c.first.ensures
-    c.slot_is_bad.ensures c.if-slot_is_bad.true
-
-pub loop-left-smaller : goal.loop-left-smaller
-loop-left-smaller c =
-    look_fewer c.loop-left.invariant c.is_empty.ensures c.loop-left-test.true-raw c.first.ensures c.rest-left.ensures
-
-pub loop-left-preserved : goal.loop-left-preserved
-loop-left-preserved c =
-    look_on c.loop-left.invariant c.is_empty.ensures c.loop-left-test.true-raw c.first.ensures
-    c.slot_is_bad.ensures c.if-slot_is_bad.false c.rest-left.ensures
-
 pub returns : goal.returns
-returns c = look_none c.loop-left.invariant c.is_empty.ensures c.loop-left-test.false-raw
+returns c =
+    let o = c.args.found.now in
+    any_from_yields_List (bad_slot o.head (words_in o) c.args.n) _ _ _ c.any.ensures.ran
+    (YieldsList-from_first (λ (x : ℕ). x) slots_left (slots c.standing.result) c.slots.ensures)
+    (λ x b q k. search rules)
+    ∙ any_listed (bad_slot o.head (words_in o) c.args.n) (slots c.standing.result)
+    ∙ ap (λ (b : Standing). any_of (bad_slot o.head (words_in o) c.args.n) (slots b)) c.standing.ensures
