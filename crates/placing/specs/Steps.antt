@@ -1,5 +1,5 @@
 -- What the contracts of placing name beside the programs of calls: one level of the index, a tag with a place, and a clear and a new reading as one.
-use Rattle.std.specs.Prelude.{List, ℕ, ◌/◌, ◌%◌, ◌≤◌, eqb}
+use Rattle.std.specs.Prelude.{List, ℕ, ◌/◌, ◌%◌, ◌≤◌, eqb, Option, Some, None}
 use Rattle.layout.specs.declared.settings.Settings.{Settings}
 use Rattle.layout.specs.declared.head.Cursor.{Cursor}
 use Rattle.layout.specs.declared.address.Address.TheVariants.{Time, Dir}
@@ -15,6 +15,7 @@ enter_first level every i now = when (eqb (i % every) 0) (set! (Time level (i / 
 pub record Listed (s : Settings) (ws : List ℕ) (tag : ℕ) : Type 0 where
   pub some : 1 ≤ (over s).read ws (Dir tag)
 
--- a clear (more = 0) or a new reading (more = 1)
-abbrev pub clearing_program : ℕ → Settings → Cursor → ℕ → ℕ → ℕ → Prog Cursor
-clearing_program more s c now tag reading = when (eqb more 0) (clear_program s c now tag) (update_program s c now tag reading)
+-- a clear, or with a reading a new reading
+abbrev pub clearing_program : Settings → Cursor → ℕ → ℕ → Option ℕ → Prog Cursor
+clearing_program s c now tag None = clear_program s c now tag
+clearing_program s c now tag (Some reading) = update_program s c now tag reading

@@ -48,26 +48,27 @@ pub fn set_program(store: &mut [u32], h: Head, second: u32, tag: u32, reading: u
     finish(store, placed, second)
 }
 
-// A tag is cleared (more = 0), or gets a new reading (more = 1): a clear and a set at the same second.
+// A tag is cleared, or gets a new reading: a clear and a set at the same second.
 pub fn clearing_program(
     store: &mut [u32],
     h: Head,
     second: u32,
     tag: u32,
-    more: u32,
-    reading: u32,
+    reading: Option<u32>,
 ) -> Head
-    requires able { Able h.settings (clearing_program more h.settings h.cursor second tag reading) store.old }
+    requires able { Able h.settings (clearing_program h.settings h.cursor second tag reading) store.old }
     requires listed { Listed h.settings store.old tag }
-    ensures { Moved h (clearing_program more h.settings h.cursor second tag reading)
+    ensures { Moved h (clearing_program h.settings h.cursor second tag reading)
         store.old result store.new }
 {
     let cleared = clear_tag(store, h, second, tag);
-    if more == 0 {
-        return finish(store, cleared, second);
+    match reading {
+        None => finish(store, cleared, second),
+        Some(told) => {
+            let renewed = moves::place(store, cleared, second, tag, told);
+            finish(store, renewed, second)
+        }
     }
-    let renewed = moves::place(store, cleared, second, tag, reading);
-    finish(store, renewed, second)
 }
 
 // The clock moves.

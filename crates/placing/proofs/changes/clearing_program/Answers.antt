@@ -1,58 +1,60 @@
 -- `changes::clearing_program` meets its contract: the clear first, then as a clear or as a new reading.
-use borrow.Author.Tests.{eq-eqb, ne_eqb}
-use Rattle.base.specs.Branch.{is?}
+use mathlib.Core.List.{List}
+use Prim.Native.Nat.{ℕ}
+use Rattle.std.specs.Prelude.{Option, Some, None}
+use Rattle.layout.specs.declared.settings.Settings.{Settings}
+use Rattle.layout.specs.declared.head.Cursor.{Cursor}
 use Rattle.layout.specs.Ran.{ran_length}
-use Rattle.layout.specs.Able.{able_first, able_next, able_taken, able_passed}
-use Rattle.layout.specs.Moved.{onto, if_taken, if_passed}
-use Rattle.calls.specs.Placing.{clear_program, update_program}
+use Rattle.layout.specs.Able.{Able, able_first, able_next}
+use Rattle.layout.specs.Moved.{onto}
+use Rattle.calls.specs.Placing.{clear_tag, clear_program, update_program}
+use Rattle.placing.specs.Steps.{clearing_program}
 use Rattle.placing.proofs.changes.clearing_program.Goals as goal
 
-pub clear_tag-cleared-requires : goal.clear_tag-cleared-requires
+-- either begins with the clear
+first : {s : Settings} (c : Cursor) (now tag : ℕ) {ws : List ℕ} (reading : Option ℕ) → Able s (clearing_program s c now tag reading) ws → Able s (clear_tag s c now tag) ws
 unfolding clear_program update_program
+first c now tag None a = able_first a
+first c now tag (Some reading) a = able_first a
+
+pub clear_tag-cleared-requires : goal.clear_tag-cleared-requires
 clear_tag-cleared-requires c =
-    record {
-      able = is? c.args.more 0
-          (λ e. able_first (able_taken (eq-eqb _ _ e) c.requires.able))
-          (λ d. able_first (able_passed (ne_eqb _ _ d) c.requires.able));
-      listed = c.requires.listed;
-    }
+    record { able = first c.args.h.cursor c.args.second c.args.tag c.args.reading c.requires.able; listed = c.requires.listed }
 
 pub finish-requires : goal.finish-requires
 unfolding clear_program
 finish-requires c =
     let m = c.clear_tag-cleared.ensures in
-    rw m.settings (able_next (able_taken (eq-eqb _ _ c.if-more-eq0.true) c.requires.able) m.ran)
+    rw m.settings (able_next (rw c.in-None.is at c.requires.able) m.ran)
 
-pub returns-then-more-eq0 : goal.returns-then-more-eq0
+pub returns-in-None : goal.returns-in-None
 unfolding clear_program
-returns-then-more-eq0 c =
+returns-in-None c =
     let m = c.clear_tag-cleared.ensures in
-    if_taken (eq-eqb _ _ c.if-more-eq0.true) (onto m (rw m.settings at c.finish.ensures))
-
-pub shape_of-store-then-more-eq0 : goal.shape_of-store-then-more-eq0
-shape_of-store-then-more-eq0 c = ran_length (returns-then-more-eq0 c).ran
+    rw c.in-None.is (onto m (rw m.settings at c.finish.ensures))
 
 pub place-renewed-requires : goal.place-renewed-requires
 unfolding update_program
 place-renewed-requires c =
     let m = c.clear_tag-cleared.ensures in
-    rw m.settings (able_first (able_next (able_passed (ne_eqb _ _ c.if-more-eq0.false) c.requires.able) m.ran))
+    rw m.settings (able_first (able_next (rw c.in-Some.is at c.requires.able) m.ran))
 
-pub finish-requires-2 : goal.finish-requires-2
+pub finish-requires-in-Some : goal.finish-requires-in-Some
 unfolding update_program
-finish-requires-2 c =
+finish-requires-in-Some c =
     let m = c.clear_tag-cleared.ensures in
     let n = c.place-renewed.ensures in
-    let a = able_passed (ne_eqb _ _ c.if-more-eq0.false) c.requires.able in
-    rw (n.settings, m.settings) (able_next (able_next a m.ran) (rw m.settings at n.ran))
+    rw (n.settings, m.settings) (able_next (able_next (rw c.in-Some.is at c.requires.able) m.ran) (rw m.settings at n.ran))
 
-pub returns : goal.returns
+pub returns-in-Some : goal.returns-in-Some
 unfolding update_program
-returns c =
+returns-in-Some c =
     let m = c.clear_tag-cleared.ensures in
     let n = c.place-renewed.ensures in
-    if_passed (ne_eqb _ _ c.if-more-eq0.false)
-    (onto m (onto (rw m.settings at n) (rw (n.settings, m.settings) at c.finish-2.ensures)))
+    rw c.in-Some.is (onto m (onto (rw m.settings at n) (rw (n.settings, m.settings) at c.finish-in-Some.ensures)))
 
-pub shape_of-store : goal.shape_of-store
-shape_of-store c = ran_length (returns c).ran
+pub shape_of-store-in-None : goal.shape_of-store-in-None
+shape_of-store-in-None c = ran_length (returns-in-None c).ran
+
+pub shape_of-store-in-Some : goal.shape_of-store-in-Some
+shape_of-store-in-Some c = ran_length (returns-in-Some c).ran
