@@ -1,32 +1,24 @@
 -- `advance` meets its contract: turned away it leaves all words, else those of its program.
-use mathlib.Core.Path.{sym, ◌∙◌}
-use mathlib.Core.List.{[]}
+use Rattle.std.proofs.lemmas.Result.{err_from_is_err_and}
+use Rattle.layout.specs.declared.head.Head.{Head}
 use Rattle.layout.specs.Head.{head_of}
 use Rattle.calls.specs.Placing.{advance_program}
-use Rattle.calls.specs.Refusals.{time_tests}
 use Rattle.calls.specs.Step.{advance}
 use Rattle.changes.specs.ReplyLaws.{turned_away, carried_out, advance_able}
 use Rattle.changes.proofs.advance.Goals as goal
 
+pub returns-in_err-found : goal.returns-in_err-found
+unfolding advance
+returns-in_err-found c =
+    let a = c.args in let h = head_of a.store.now in
+    let p = err_from_is_err_and c.from_residual.result c.from_residual.ensures.1 in
+    rw (p.1, p.2) (turned_away (advance_program h.settings h.cursor a.second) c.in_err-found.ensures)
+
 pub advance_program-next-requires : goal.advance_program-next-requires
-advance_program-next-requires c =
-    let a = c.args in
-    advance_able a.store.now a.second _
-    (sym c.decide_advance-verdict.ensures ∙ c.in-Go.is)
+advance_program-next-requires c = advance_able c.args.second c.args.second c.in_ok-found.ensures
 
-pub returns-in-Refused : goal.returns-in-Refused
+pub returns : goal.returns
 unfolding advance
-returns-in-Refused c =
+returns c =
     let a = c.args in
-    turned_away (time_tests a.store.now a.second []) a.store.now
-    (advance_program (head_of a.store.now).settings (head_of a.store.now).cursor a.second)
-    (sym c.decide_advance-verdict.ensures ∙ c.in-Refused.is)
-
-pub returns-in-Go : goal.returns-in-Go
-unfolding advance
-returns-in-Go c =
-    let a = c.args in
-    carried_out (time_tests a.store.now a.second []) a.store.now
-    (λ x. advance_program x.settings x.cursor a.second)
-    (sym c.decide_advance-verdict.ensures ∙ c.in-Go.is)
-    c.advance_program-next.ensures
+    carried_out (λ (x : Head). advance_program x.settings x.cursor a.second) c.in_ok-found.ensures c.advance_program-next.ensures

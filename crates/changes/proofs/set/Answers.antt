@@ -1,31 +1,24 @@
 -- `set` meets its contract: turned away it leaves all words, else those of its program.
-use mathlib.Core.Path.{sym, ◌∙◌}
+use Rattle.std.proofs.lemmas.Result.{err_from_is_err_and}
+use Rattle.layout.specs.declared.head.Head.{Head}
 use Rattle.layout.specs.Head.{head_of}
 use Rattle.calls.specs.Placing.{set_program}
-use Rattle.calls.specs.Refusals.{set_tests}
-use Rattle.calls.specs.Step.{words_read, set}
+use Rattle.calls.specs.Step.{set}
 use Rattle.changes.specs.ReplyLaws.{turned_away, carried_out, set_able}
 use Rattle.changes.proofs.set.Goals as goal
 
+pub returns-in_err-found : goal.returns-in_err-found
+unfolding set
+returns-in_err-found c =
+    let a = c.args in let h = head_of a.store.now in
+    let p = err_from_is_err_and c.from_residual.result c.from_residual.ensures.1 in
+    rw (p.1, p.2) (turned_away (set_program h.settings h.cursor a.second a.tag a.reading) c.in_err-found.ensures)
+
 pub set_program-next-requires : goal.set_program-next-requires
-set_program-next-requires c =
-    let a = c.args in
-    set_able a.store.now a.second _ a.tag _
-    (sym c.decide_set-verdict.ensures ∙ c.in-Go.is)
+set_program-next-requires c = let a = c.args in set_able a.second a.second a.tag a.reading c.in_ok-found.ensures
 
-pub returns-in-Refused : goal.returns-in-Refused
+pub returns : goal.returns
 unfolding set
-returns-in-Refused c =
+returns c =
     let a = c.args in
-    turned_away (set_tests a.store.now (words_read a.store.now) a.second a.tag) a.store.now
-    (set_program (head_of a.store.now).settings (head_of a.store.now).cursor a.second a.tag a.reading)
-    (sym c.decide_set-verdict.ensures ∙ c.in-Refused.is)
-
-pub returns-in-Go : goal.returns-in-Go
-unfolding set
-returns-in-Go c =
-    let a = c.args in
-    carried_out (set_tests a.store.now (words_read a.store.now) a.second a.tag) a.store.now
-    (λ x. set_program x.settings x.cursor a.second a.tag a.reading)
-    (sym c.decide_set-verdict.ensures ∙ c.in-Go.is)
-    c.set_program-next.ensures
+    carried_out (λ (x : Head). set_program x.settings x.cursor a.second a.tag a.reading) c.in_ok-found.ensures c.set_program-next.ensures

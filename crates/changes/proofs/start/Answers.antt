@@ -1,31 +1,26 @@
 -- `start` meets its contract: turned away it leaves all words, else the layout filled with zeros and the head.
-use mathlib.Core.Path.{sym, ap, ◌∙◌}
+use mathlib.Core.Path.{ap, ◌∙◌}
 use native.Mathlib.Omega.{arith}
+use Rattle.std.proofs.lemmas.Result.{err_from_is_err_and}
 use Rattle.layout.specs.Head.{with_head}
 use Rattle.decisions.specs.StartLaws.{go_start}
 use Rattle.changes.specs.ReplyLaws.{start_away, start_done}
 use Rattle.changes.proofs.start.Goals as goal
 
+pub returns-in_err-settings : goal.returns-in_err-settings
+returns-in_err-settings c =
+    let p = err_from_is_err_and c.from_residual.result c.from_residual.ensures.1 in
+    rw (p.1, p.2) (start_away c.args.store.now c.in_err-settings.ensures)
+
 pub clear_layout-requires : goal.clear_layout-requires
 clear_layout-requires c =
-    let a = c.args in
-    let g = go_start a.store.now a.asked (sym c.decide_start-verdict.ensures ∙ c.in-Go.is) in
+    let g = go_start c.in_ok-settings.ensures in
     record { within = rw g.0 g.1.within; s_in_bounds = rw g.0 g.1.long }
 
 pub write_head-requires : goal.write_head-requires
-write_head-requires c =
-    let a = c.args in
-    let g = go_start a.store.now a.asked (sym c.decide_start-verdict.ensures ∙ c.in-Go.is) in
-    omega (arith, g.1.head)
+write_head-requires c = let g = go_start c.in_ok-settings.ensures in omega (arith, g.1.head)
 
-pub returns-in-Refused : goal.returns-in-Refused
-returns-in-Refused c =
-    let a = c.args in
-    start_away a.store.now a.asked (sym c.decide_start-verdict.ensures ∙ c.in-Refused.is)
-
-pub returns-in-Go : goal.returns-in-Go
-returns-in-Go c =
-    let a = c.args in
-    start_done a.store.now a.asked (sym c.decide_start-verdict.ensures ∙ c.in-Go.is)
-    c.fresh-fresh.ensures
+pub returns : goal.returns
+returns c =
+    start_done c.args.store.now c.in_ok-settings.ensures c.fresh-fresh.ensures
     (c.write_head.ensures ∙ ap (with_head _) c.clear_layout.ensures)
