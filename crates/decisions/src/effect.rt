@@ -1,13 +1,11 @@
 // What a change will do, by the words that it finds: which blocks close, how many records come in, whether a block opens.
 ghost use Rattle.std.specs.Prelude.{◌≡◌, ◌+◌, ◌-◌, ◌≤◌, eqb};
 ghost use Rattle.layout.specs.Address.{Numbered};
-ghost use Rattle.layout.specs.HeadLaws.{SoundHead};
 ghost use Rattle.calls.specs.Refusals.{opens, taken_up, remaining, closes, copies};
 ghost use Rattle.decisions.specs.Ready.{words_in};
 ghost use Rattle.decisions.specs.Verdict.{more};
 ghost use Rattle.decisions.specs.EffectLaws.{few_when_full};
 
-use layout::head::Head;
 use layout::standing::Standing;
 use queries::Opened;
 
@@ -50,10 +48,10 @@ pub(crate) fn incoming(found: &Opened, n: u32, renews: bool) -> u32
 }
 
 // Incoming records open a block if there are any and the acceptor has no room for all of them.
-pub(crate) fn opens(h: Head, incoming: u32) -> bool
-    requires { SoundHead h }
-    ensures { result ≡ opens h incoming }
+pub(crate) fn opens(found: &Opened, incoming: u32) -> bool
+    ensures { result ≡ opens found.now.head incoming }
 {
+    let h = found.head;
     if incoming == 0 {
         return false;
     }
@@ -76,17 +74,18 @@ fn taken_up(b: Standing, from: u32, to: u32) -> Standing
 }
 
 // The acceptor, with standing bits b, has fewer than q standing once its free slots are taken. It is judged so when a block opens.
-pub(crate) fn few_when_full(h: Head, b: Standing) -> bool
-    requires { SoundHead h }
-    ensures { result ≡ few_when_full h b }
+pub(crate) fn few_when_full(found: &Opened, b: Standing) -> bool
+    ensures { result ≡ few_when_full found.now.head b }
 {
+    let h = found.head;
     let full = taken_up(b, h.cursor.fill, h.settings.block);
     full.count() < h.settings.useful
 }
 
 // No block is left to open: N = B.
-pub(crate) fn all_opened(h: Head) -> bool
-    ensures { result ≡ eqb h.cursor.opened h.settings.blocks }
+pub(crate) fn all_opened(found: &Opened) -> bool
+    ensures { result ≡ eqb found.now.head.cursor.opened found.now.head.settings.blocks }
 {
+    let h = found.head;
     h.cursor.opened == h.settings.blocks
 }

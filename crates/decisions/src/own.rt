@@ -9,23 +9,22 @@ ghost use Rattle.decisions.specs.SoundLaws.{out_test, ending_tests};
 
 use crate::{effect, sound};
 use layout::address::Address;
-use layout::head::Head;
 use layout::place;
 use layout::refusal::Refusal;
 use queries::Opened;
 
 // Refusal 8: the tag is D or more.
-fn beyond_tags(h: Head, tag: u32) -> bool
-    ensures { result ≡ leb h.settings.tags tag }
+fn beyond_tags(found: &Opened, tag: u32) -> bool
+    ensures { result ≡ leb found.now.head.settings.tags tag }
 {
-    h.settings.tags <= tag
+    found.head.settings.tags <= tag
 }
 
 // Refusal 13 where a block opens.
-fn test_opening(h: Head) -> Result<(), Refusal>
-    ensures { RefusalOf (out_test h) (refused result) }
+fn test_opening(found: &Opened) -> Result<(), Refusal>
+    ensures { RefusalOf (out_test found.now.head) (refused result) }
 {
-    if effect::all_opened(h) {
+    if effect::all_opened(found) {
         return Err(Refusal::OutOfBlocks);
     }
     Ok(())
@@ -35,20 +34,19 @@ fn test_opening(h: Head) -> Result<(), Refusal>
 pub(crate) fn test_set(found: &Opened, tag: u32) -> Result<(), Refusal>
     ensures { RefusalOf (set_own found.now.head (words_in found.now) tag) (refused result) }
 {
-    let h = found.head;
-    if beyond_tags(h, tag) {
+    if beyond_tags(found, tag) {
         return Err(Refusal::Tag);
     }
     if found.read(Address::Dir(tag)) != 0 {
         return Err(Refusal::Standing);
     }
-    if !effect::opens(h, 1) {
+    if !effect::opens(found, 1) {
         return Ok(());
     }
     if sound::unsound_for_set(found) {
         return Err(Refusal::Unsound);
     }
-    test_opening(h)
+    test_opening(found)
 }
 
 // Refusals 12 and 13 of a clear or a new reading of the tag at place p. Most of them open no block, too.
@@ -56,30 +54,28 @@ fn test_ending(found: &Opened, tag: u32, p: u32, renews: bool) -> Result<(), Ref
     requires { PlaceOf found.now tag p }
     ensures { RefusalOf (ending_tests (more renews) found.now.head (words_in found.now) tag) (refused result) }
 {
-    let h = found.head;
     if sound::place_is_bad(found, tag, p) {
         return Err(Refusal::Unsound);
     }
-    let n = place::block_of(h.settings, p);
+    let n = place::block_of(found.head.settings, p);
     if sound::closing_is_bad(found, n) {
         return Err(Refusal::Unsound);
     }
     let incoming = effect::incoming(found, n, renews);
-    if !effect::opens(h, incoming) {
+    if !effect::opens(found, incoming) {
         return Ok(());
     }
     if sound::unsound_after_clear(found, tag, p) {
         return Err(Refusal::Unsound);
     }
-    test_opening(h)
+    test_opening(found)
 }
 
 // Refusals 8, 10, 12 and 13 of a clear or a new reading.
 pub(crate) fn test_clear(found: &Opened, tag: u32, renews: bool) -> Result<(), Refusal>
     ensures { RefusalOf (clear_own (more renews) found.now.head (words_in found.now) tag) (refused result) }
 {
-    let h = found.head;
-    if beyond_tags(h, tag) {
+    if beyond_tags(found, tag) {
         return Err(Refusal::Tag);
     }
     let p = found.read(Address::Dir(tag));

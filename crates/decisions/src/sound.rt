@@ -83,7 +83,7 @@ fn acceptor_is_bad(found: &Opened, b: Standing) -> bool
     requires { 1 ≤ found.now.head.cursor.opened }
     ensures { result ≡ bad_acceptor found.now.head (words_in found.now) b }
 {
-    if !effect::few_when_full(found.head, b) {
+    if !effect::few_when_full(found, b) {
         return false;
     }
     block_is_bad(found, found.head.cursor.opened)
