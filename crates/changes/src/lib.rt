@@ -38,7 +38,8 @@ pub fn set(store: &mut [u32], second: u32, tag: u32, reading: u32) -> Result<Hea
 fn clearing(store: &mut [u32], second: u32, tag: u32, reading: Option<u32>) -> Result<Head, Refusal>
     ensures { Replied (clearing store.old second tag reading) result store.new }
 {
-    let found = decisions::decide_clearing(store, second, tag, reading.is_some())?;
+    let renews = reading.is_some();
+    let found = decisions::decide_clearing(store, second, tag, renews)?;
     let next = placing::changes::clearing_program(store, found, second, tag, reading);
     Ok(next)
 }

@@ -15,7 +15,7 @@ returns-in_err-found c =
     rw (p.1, p.2) (turned_away (advance_program h.settings h.cursor a.second) c.in_err-found.ensures)
 
 pub advance_program-next-requires : goal.advance_program-next-requires
-advance_program-next-requires c = advance_able c.args.second c.args.second c.in_ok-found.ensures
+advance_program-next-requires c = advance_able c.args.second _ c.in_ok-found.ensures
 
 pub returns : goal.returns
 unfolding advance

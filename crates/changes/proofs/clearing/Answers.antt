@@ -13,14 +13,14 @@ unfolding clearing
 returns-in_err-found c =
     let a = c.args in let h = head_of a.store.now in
     let p = err_from_is_err_and c.from_residual.result c.from_residual.ensures.1 in
-    rw (p.1, p.2) (turned_away (clearing_program h.settings h.cursor a.second a.tag a.reading) (rw c.is_some.ensures at c.in_err-found.ensures))
+    rw (p.1, p.2) (turned_away (clearing_program h.settings h.cursor a.second a.tag a.reading) (rw c.is_some-renews.ensures at c.in_err-found.ensures))
 
 pub clearing_program-next-requires : goal.clearing_program-next-requires
 clearing_program-next-requires c =
     let a = c.args in
     record {
-      able = clearing_able a.second a.tag a.reading (rw c.is_some.ensures at c.in_ok-found.ensures);
-      listed = clearing_listed a.second a.tag (more c.is_some.result) c.in_ok-found.ensures;
+      able = clearing_able a.second a.tag a.reading (rw c.is_some-renews.ensures at c.in_ok-found.ensures);
+      listed = clearing_listed a.second a.tag (more c.is_some-renews.result) c.in_ok-found.ensures;
     }
 
 pub returns : goal.returns
@@ -28,4 +28,4 @@ unfolding clearing
 returns c =
     let a = c.args in
     carried_out (λ (x : Head). clearing_program x.settings x.cursor a.second a.tag a.reading)
-    (rw c.is_some.ensures at c.in_ok-found.ensures) c.clearing_program-next.ensures
+    (rw c.is_some-renews.ensures at c.in_ok-found.ensures) c.clearing_program-next.ensures

@@ -15,7 +15,7 @@ returns-in_err-found c =
     rw (p.1, p.2) (turned_away (set_program h.settings h.cursor a.second a.tag a.reading) c.in_err-found.ensures)
 
 pub set_program-next-requires : goal.set_program-next-requires
-set_program-next-requires c = let a = c.args in set_able a.second a.second a.tag a.reading c.in_ok-found.ensures
+set_program-next-requires c = let a = c.args in set_able a.second _ _ _ c.in_ok-found.ensures
 
 pub returns : goal.returns
 unfolding set
