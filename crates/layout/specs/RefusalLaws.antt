@@ -1,5 +1,5 @@
 -- Every refusal has a number, and 0 is none.
-use Rattle.std.specs.Prelude.{ℕ, ◌≤◌}
+use Rattle.std.specs.Prelude.{◌≤◌}
 use native.Mathlib.Omega.{arith}
 use Rattle.layout.specs.declared.refusal.Refusal.{Refusal}
 use Rattle.layout.specs.declared.refusal.Refusal.TheVariants as refusal

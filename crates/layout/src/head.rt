@@ -16,7 +16,7 @@ use crate::settings::Settings;
 use crate::{address, fields, parts, sizes};
 
 // The part of the head that moves on: what is not settings.
-#[derive(Clone, Copy, Default)]
+#[derive(Clone, Copy, Debug, Default, PartialEq, Eq)]
 pub struct Cursor {
     // N: blocks opened; block N is the acceptor
     pub opened: u32,
@@ -30,7 +30,7 @@ pub struct Cursor {
     pub right: u32,
 }
 
-#[derive(Clone, Copy)]
+#[derive(Clone, Copy, Debug, PartialEq, Eq)]
 pub struct Head {
     pub settings: Settings,
     pub cursor: Cursor,

@@ -6,7 +6,7 @@ ghost use Rattle.layout.specs.SettingsLaws.{BlockLong, StoreLong};
 use crate::refusal::Refusal;
 use crate::sizes;
 
-#[derive(Clone, Copy)]
+#[derive(Clone, Copy, Debug, PartialEq, Eq)]
 pub struct Settings {
     // b: records in a block
     pub block: u32,
