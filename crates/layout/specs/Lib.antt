@@ -22,6 +22,7 @@ pub mod OffsetLaws
 pub mod PartsLaws
 pub mod HeadLaws
 pub mod StandingLaws
+pub mod SlotsLeft
 pub mod OverLaws
 pub mod Spot
 pub mod Able

@@ -1,9 +1,11 @@
 // A block's standing bits as one value: slot k stands while bit k is 1.
-ghost use Rattle.std.specs.Prelude.{◌≡◌, ◌^◌, ◌<◌, eqb, length};
+ghost use Rattle.std.specs.Prelude.{◌≡◌, ◌^◌, ◌<◌, ◌∷◌, [], MatchOption, eqb, length};
+ghost use Rattle.std.specs.Iterator.{YieldsFirst, item_count};
 ghost use Rattle.base.specs.Bits.{bit_at, with_bit, without_bit};
 ghost use Rattle.base.specs.Ones.{lower_off};
 ghost use Rattle.layout.specs.Standing.{slots, stands, raised, lowered, first_slot, other_slots};
 ghost use Rattle.layout.specs.StandingLaws.{none};
+ghost use Rattle.layout.specs.SlotsLeft.{slots_left};
 
 #[derive(Clone, Copy)]
 pub struct Standing {
@@ -111,6 +113,23 @@ impl Standing {
         }
     }
 
+    // The first slot that stands, and the others.
+    fn split_first(self) -> Option<(u32, Standing)>
+        ensures { MatchOption result (slots self ≡ []) (λ p. slots self ≡ p.0 ∷ slots p.1) }
+    {
+        if self.is_empty() {
+            return None;
+        }
+        Some((self.first(), self.rest()))
+    }
+
+    // The slots that stand, in slot order.
+    pub fn slots(self) -> Slots
+        ensures { slots_left result ≡ slots self }
+    {
+        Slots { left: self }
+    }
+
     // No slot stands.
     pub fn is_empty(self) -> bool
         ensures { result ≡ none self }
@@ -145,5 +164,25 @@ impl Standing {
             low: lower_off(self.low),
             high: self.high,
         }
+    }
+}
+
+// Standing slots in order, those that are left.
+#[derive(Drop)]
+pub struct Slots {
+    left: Standing,
+}
+
+impl Iterator for Slots {
+    type Item = u32;
+
+    ghost next_gives = { YieldsFirst slots_left };
+
+    ghost remaining = { item_count slots_left };
+
+    fn next(&mut self) -> Option<u32> {
+        let (slot, others) = self.left.split_first()?;
+        self.left = others;
+        Some(slot)
     }
 }
