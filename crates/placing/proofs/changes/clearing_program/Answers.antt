@@ -1,7 +1,6 @@
 -- `changes::clearing_program` meets its contract: the clear first, then as a clear or as a new reading.
 use borrow.Author.Tests.{eq-eqb, ne_eqb}
 use Rattle.base.specs.Branch.{is?}
-use Rattle.layout.specs.Ran.{ran_length}
 use Rattle.layout.specs.Able.{able_first, able_next, able_taken, able_passed}
 use Rattle.layout.specs.Moved.{onto, if_taken, if_passed}
 use Rattle.calls.specs.Placing.{clear_program, update_program}
@@ -29,9 +28,6 @@ returns-then-more-eq0 c =
     let m = c.clear_tag-cleared.ensures in
     if_taken (eq-eqb _ _ c.if-more-eq0.true) (onto m (rw m.settings at c.finish.ensures))
 
-pub shape_of-store-then-more-eq0 : goal.shape_of-store-then-more-eq0
-shape_of-store-then-more-eq0 c = ran_length (returns-then-more-eq0 c).ran
-
 pub place-renewed-requires : goal.place-renewed-requires
 unfolding update_program
 place-renewed-requires c =
@@ -53,6 +49,3 @@ returns c =
     let n = c.place-renewed.ensures in
     if_passed (ne_eqb _ _ c.if-more-eq0.false)
     (onto m (onto (rw m.settings at n) (rw (n.settings, m.settings) at c.finish-2.ensures)))
-
-pub shape_of-store : goal.shape_of-store
-shape_of-store c = ran_length (returns c).ran
