@@ -1,2 +1,3 @@
 pub mod AbleLaws
+pub mod JudgeLaws
 pub mod LoopLaws

@@ -4,6 +4,7 @@ ghost use Rattle.layout.specs.Able.{Able};
 ghost use Rattle.calls.specs.Placing.{clear_tag, finish, set_program, advance_program};
 ghost use Rattle.placing.specs.Steps.{Listed, clearing_program};
 
+use crate::moves::Anew;
 use crate::{moves, records};
 use layout::address::Address;
 use layout::head::Head;
@@ -25,7 +26,7 @@ fn clear_tag(store: &mut [u32], h: Head, second: u32, tag: u32) -> Head
     if n == h.cursor.opened {
         return h;
     }
-    moves::judge(store, h, n, second)
+    moves::judge::<Anew>(store, h, n, second)
 }
 
 // The next head, its clock at `second`, stored and handed back.

@@ -1,7 +1,7 @@
 -- `blocks::enter_first` meets its contract: the write, or none.
 use borrow.Author.Tests.{eq-eqb, ne_eqb}
 use Rattle.layout.specs.Able.{able_taken}
-use Rattle.layout.specs.Ran.{done, taken, passed, ran_length}
+use Rattle.layout.specs.Ran.{done, taken, passed}
 use Rattle.placing.proofs.AbleLaws.{writes_last}
 use Rattle.placing.proofs.blocks.enter_first.Goals as goal
 
@@ -13,6 +13,3 @@ write-requires c = let all = writes_last _ (able_taken (eq-eqb _ _ c.if-i-every-
 
 pub returns : goal.returns
 returns c = taken (eq-eqb _ _ c.if-i-every-ne0.false) c.write.ensures
-
-pub shape_of-store : goal.shape_of-store
-shape_of-store c = ran_length (returns c)

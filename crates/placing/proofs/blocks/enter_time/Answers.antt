@@ -1,7 +1,7 @@
 -- `blocks::enter_time` meets its contract: one level after the other.
 use native.Mathlib.Omega.{arith}
 use Rattle.layout.specs.Able.{able_first, able_next}
-use Rattle.layout.specs.Ran.{then, ran_length}
+use Rattle.layout.specs.Ran.{then}
 use Rattle.calls.specs.Placing.{enter_time}
 use Rattle.placing.proofs.AbleLaws.{writes}
 use Rattle.placing.proofs.blocks.enter_time.Goals as goal
@@ -27,6 +27,3 @@ pub returns : goal.returns
 unfolding enter_time
 returns c =
     then c.write.ensures (then c.enter_first.ensures c.enter_first-2.ensures)
-
-pub shape_of-store : goal.shape_of-store
-shape_of-store c = ran_length (returns c)

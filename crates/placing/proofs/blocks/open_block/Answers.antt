@@ -4,7 +4,6 @@ use native.Mathlib.Omega.{arith}
 use borrow.Author.Tests.{eq-eqb, ne_eqb}
 use Rattle.layout.specs.Fields.{opened_word, closed_word, up_word, right_word}
 use Rattle.layout.specs.Able.{able_first}
-use Rattle.layout.specs.Ran.{ran_length}
 use Rattle.layout.specs.Moved.{moves, after, if_taken, if_passed}
 use Rattle.calls.specs.Placing.{open_block}
 use Rattle.placing.proofs.AbleLaws.{held_after, field_after, next_block, last_block, few_opened}
@@ -45,9 +44,6 @@ returns-then-last-eq0 c =
     (after c.write-3.ensures (if_taken (eq-eqb _ _ c.if-last-eq0.true) (moves c.grown.ensures
     c.write-3.ensures.good))))))
 
-pub shape_of-store-then-last-eq0 : goal.shape_of-store-then-last-eq0
-shape_of-store-then-last-eq0 c = ran_length (returns-then-last-eq0 c).ran
-
 pub write-requires-4 : goal.write-requires-4
 write-requires-4 c =
     let all = field_after c.requires.within (last_block _ _ c.requires c.if-last-eq0.false)
@@ -64,6 +60,3 @@ returns c =
     after c.enter_time.ensures (after c.wipe.ensures (after c.write.ensures (after c.write-2.ensures
     (after c.write-3.ensures (if_passed (ne_eqb _ _ c.if-last-eq0.false) (after c.write-4.ensures (moves
     c.grown-2.ensures c.write-4.ensures.good)))))))
-
-pub shape_of-store : goal.shape_of-store
-shape_of-store c = ran_length (returns c).ran

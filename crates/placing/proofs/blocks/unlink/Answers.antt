@@ -2,7 +2,6 @@
 use mathlib.Core.Path.{refl}
 use borrow.Author.Tests.{eq-eqb, ne_eqb}
 use Rattle.layout.specs.Fields.{closed_word, up_word, left_word, child_word, right_word}
-use Rattle.layout.specs.Ran.{ran_length}
 use Rattle.layout.specs.Able.{able_next}
 use Rattle.layout.specs.Moved.{stays, moves, after, if_taken, if_passed}
 use Rattle.calls.specs.Placing.{unlink}
@@ -37,9 +36,6 @@ returns-then-up-eq0 c =
     (if_taken (eq-eqb _ _ c.if-up-eq0.true) (after c.write-then-up-eq0.ensures (moves c.relinked.ensures
     c.write-then-up-eq0.ensures.good))))))
 
-pub shape_of-store-then-up-eq0 : goal.shape_of-store-then-up-eq0
-shape_of-store-then-up-eq0 c = ran_length (returns-then-up-eq0 c).ran
-
 pub read-child-requires : goal.read-child-requires
 read-child-requires c =
     let l = (unlink_links _ _ _ c.requires c.read-up.ensures c.read-right.ensures) in
@@ -68,6 +64,3 @@ returns c =
     after c.read-up.ensures (after c.read-right.ensures (after c.write.ensures (after c.write-2.ensures
     (if_passed (ne_eqb _ _ c.if-up-eq0.false) (after c.read-child.ensures (after c.write-3.ensures (after
     c.write-4.ensures (after c.write-5.ensures (stays refl c.write-5.ensures.good)))))))))
-
-pub shape_of-store : goal.shape_of-store
-shape_of-store c = ran_length (returns c).ran

@@ -1,5 +1,4 @@
 -- `changes::advance_program` meets its contract.
-use Rattle.layout.specs.Ran.{ran_length}
 use Rattle.calls.specs.Placing.{advance_program}
 use Rattle.placing.proofs.changes.advance_program.Goals as goal
 
@@ -10,6 +9,3 @@ finish-requires c = c.requires
 pub returns : goal.returns
 unfolding advance_program
 returns c = c.finish.ensures
-
-pub shape_of-store : goal.shape_of-store
-shape_of-store c = ran_length (returns c).ran

@@ -1,11 +1,11 @@
 -- `changes::clear_tag` meets its contract: one step after the other, on the block and slot of the place that was read.
 use mathlib.Core.Path.{refl, sym, ◌∙◌}
 use borrow.Author.Tests.{eq-eqb, ne_eqb}
-use Rattle.layout.specs.Ran.{ran_length}
 use Rattle.layout.specs.Able.{able_first, able_next, able_passed}
 use Rattle.layout.specs.Moved.{stays, after, if_taken, if_passed}
 use Rattle.calls.specs.Placing.{clear_tag}
 use Rattle.placing.proofs.AbleLaws.{reads, writes, listed_place}
+use Rattle.placing.proofs.JudgeLaws.{judge_anew}
 use Rattle.placing.proofs.changes.clear_tag.Goals as goal
 
 pub read-place-requires : goal.read-place-requires
@@ -41,13 +41,10 @@ returns-then-n-h c =
     (after c.write.ensures (if_taken (eq-eqb _ _ (sym c.block_of-n.ensures ∙ c.if-n-h.true)) (stays refl
     c.write.ensures.good))))
 
-pub shape_of-store-then-n-h : goal.shape_of-store-then-n-h
-shape_of-store-then-n-h c = ran_length (returns-then-n-h c).ran
-
 pub judge-requires : goal.judge-requires
 unfolding clear_tag
 judge-requires c =
-    rw c.block_of-n.ensures (able_passed (ne_eqb _ _ (λ e. c.if-n-h.false (c.block_of-n.ensures ∙ e))) (able_next
+    rw (judge_anew, c.block_of-n.ensures) (able_passed (ne_eqb _ _ (λ e. c.if-n-h.false (c.block_of-n.ensures ∙ e))) (able_next
     (able_next (able_next c.requires.able c.read-place.ensures) (rw (c.block_of-n.ensures, c.slot_of-k.ensures) at
     c.end_record.ensures)) c.write.ensures))
 
@@ -55,8 +52,4 @@ pub returns : goal.returns
 unfolding clear_tag
 returns c =
     after c.read-place.ensures (after (rw (c.block_of-n.ensures, c.slot_of-k.ensures) at c.end_record.ensures)
-    (after c.write.ensures (if_passed (ne_eqb _ _ (λ e. c.if-n-h.false (c.block_of-n.ensures ∙ e))) (rw
-    c.block_of-n.ensures at c.judge.ensures))))
-
-pub shape_of-store : goal.shape_of-store
-shape_of-store c = ran_length (returns c).ran
+    (after c.write.ensures (if_passed (ne_eqb _ _ (λ e. c.if-n-h.false (c.block_of-n.ensures ∙ e))) (rw (judge_anew, c.block_of-n.ensures) at c.judge.ensures))))

@@ -1,5 +1,4 @@
 -- `changes::finish` meets its contract: the next head is stored and handed back.
-use Rattle.layout.specs.Ran.{ran_length}
 use Rattle.layout.specs.Able.{able_held}
 use Rattle.layout.specs.Moved.{moves, after}
 use Rattle.calls.specs.Placing.{finish}
@@ -14,6 +13,3 @@ returns c =
     let e = c.at-next.ensures in
     let w = rw e at c.write_cursor.ensures in
     after w (moves e w.good)
-
-pub shape_of-store : goal.shape_of-store
-shape_of-store c = ran_length (returns c).ran

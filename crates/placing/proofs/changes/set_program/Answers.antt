@@ -1,5 +1,4 @@
 -- `changes::set_program` meets its contract: one step, then the other.
-use Rattle.layout.specs.Ran.{ran_length}
 use Rattle.layout.specs.Able.{able_first, able_next}
 use Rattle.layout.specs.Moved.{onto}
 use Rattle.calls.specs.Placing.{set_program}
@@ -20,6 +19,3 @@ unfolding set_program
 returns c =
     let m = c.place-placed.ensures in
     onto m (rw m.settings at c.finish.ensures)
-
-pub shape_of-store : goal.shape_of-store
-shape_of-store c = ran_length (returns c).ran

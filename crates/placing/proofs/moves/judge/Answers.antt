@@ -1,45 +1,38 @@
 -- `moves::judge` meets its contract: with fewer than q standing the block is unlinked, and its records go on.
-use mathlib.Core.Path.{refl, sym, ◌∙◌}
+use Rattle.std.proofs.Common.{refl, sym, ◌∙◌}
 use Rattle.layout.specs.Able.{able_first, able_next}
-use Rattle.layout.specs.Ran.{ran_length}
 use Rattle.layout.specs.Moved.{stays, after, onto, if_passed}
-use Rattle.calls.specs.Placing.{judge, close}
+use Rattle.placing.specs.Steps.{judge_by}
 use Rattle.placing.proofs.AbleLaws.{asks_standing, ran_standing, able_few, if_few}
 use Rattle.placing.proofs.moves.judge.Goals as goal
 
 pub standing-bits-requires : goal.standing-bits-requires
-unfolding judge
-standing-bits-requires c = let all = asks_standing c.requires in record { numbered = all.0; held = all.1 }
+unfolding judge_by
+standing-bits-requires g c = let all = asks_standing c.requires in record { numbered = all.0; held = all.1 }
 
 pub unlink-unlinked-requires : goal.unlink-unlinked-requires
-unfolding judge close
-unlink-unlinked-requires c =
+unfolding judge_by
+unlink-unlinked-requires g c =
     able_first (able_few _ c.requires
     c.standing-bits.ensures c.too_few.ensures c.if-too_few.true)
 
-pub replace_all-requires : goal.replace_all-requires
-unfolding judge close
-replace_all-requires c =
+pub move_all-requires : goal.move_all-requires
+unfolding judge_by
+move_all-requires g c =
     let m = c.unlink-unlinked.ensures in
     rw m.settings (able_next (able_few _ c.requires
     c.standing-bits.ensures c.too_few.ensures c.if-too_few.true) m.ran)
 
 pub returns-then-too_few : goal.returns-then-too_few
-unfolding judge close
-returns-then-too_few c =
+unfolding judge_by
+returns-then-too_few g c =
     let m = c.unlink-unlinked.ensures in
     if_few _ c.requires c.standing-bits.ensures
     c.too_few.ensures c.if-too_few.true
-    (onto m (rw m.settings at c.replace_all.ensures))
-
-pub shape_of-store-then-too_few : goal.shape_of-store-then-too_few
-shape_of-store-then-too_few c = ran_length (returns-then-too_few c).ran
+    (onto m (rw m.settings at c.move_all.ensures))
 
 pub returns : goal.returns
-unfolding judge
-returns c =
+unfolding judge_by
+returns g c =
     let r = ran_standing _ c.requires c.standing-bits.ensures in
     after r (if_passed (sym c.too_few.ensures ∙ c.if-too_few.false) (stays refl r.good))
-
-pub shape_of-store : goal.shape_of-store
-shape_of-store c = ran_length (returns c).ran

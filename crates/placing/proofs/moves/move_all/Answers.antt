@@ -1,27 +1,15 @@
 -- `moves::move_all` meets its contract: a turn for each standing slot (LoopLaws).
-use native.Mathlib.Omega.{arith}
-use Rattle.placing.proofs.LoopLaws.{going, going_able, going_less, going_on, going_end}
+use Rattle.placing.proofs.LoopLaws.{going, going_able, going_on, going_end}
 use Rattle.placing.proofs.moves.move_all.Goals as goal
 
-pub loop-to_move-init : goal.loop-to_move-init
-loop-to_move-init c = going _ c.requires (record { low = omega arith; high = omega arith })
+pub loop-k-init : goal.loop-k-init
+loop-k-init g c = going _ (rw c.into_iter-k-iterator.ensures.into_iter_gives c.slots-k-items.ensures) c.requires
 
-pub move_record-head-requires : goal.move_record-head-requires
-move_record-head-requires c =
-    going_able c.loop-to_move.invariant c.is_empty.ensures c.loop-to_move-test.true-raw
-    c.first-k.ensures
+pub move_slot-head-requires : goal.move_slot-head-requires
+move_slot-head-requires g c = going_able c.loop-k.invariant c.in-Some.ensures.steps
 
-pub loop-to_move-smaller : goal.loop-to_move-smaller
-loop-to_move-smaller c =
-    going_less c.loop-to_move.invariant c.is_empty.ensures c.loop-to_move-test.true-raw c.rest-to_move.ensures
-
-pub loop-to_move-preserved : goal.loop-to_move-preserved
-loop-to_move-preserved c =
-    going_on c.loop-to_move.invariant c.is_empty.ensures c.loop-to_move-test.true-raw c.first-k.ensures
-    c.move_record-head.ensures c.rest-to_move.ensures
-
-pub shape_of-store : goal.shape_of-store
-shape_of-store c = c.loop-to_move.invariant.long
+pub loop-k-preserved : goal.loop-k-preserved
+loop-k-preserved g c = going_on c.loop-k.invariant c.in-Some.ensures.steps c.move_slot-head.ensures
 
 pub returns : goal.returns
-returns c = going_end c.loop-to_move.invariant c.is_empty.ensures c.loop-to_move-test.false-raw
+returns g c = going_end c.loop-k.invariant c.in-None.ensures.steps.0

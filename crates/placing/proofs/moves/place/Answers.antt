@@ -1,5 +1,4 @@
 -- `moves::place` meets its contract: one step, then the other.
-use Rattle.layout.specs.Ran.{ran_length}
 use Rattle.layout.specs.Able.{able_first, able_next}
 use Rattle.layout.specs.Moved.{onto}
 use Rattle.calls.specs.Placing.{place}
@@ -21,6 +20,3 @@ unfolding place
 returns c =
     let m = c.make_room-with_room.ensures in
     onto m (rw (m.settings, c.told-told.ensures) at c.put_record.ensures)
-
-pub shape_of-store : goal.shape_of-store
-shape_of-store c = ran_length (returns c).ran

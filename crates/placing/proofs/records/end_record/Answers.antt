@@ -1,5 +1,5 @@
 -- `records::end_record` meets its contract: one step after the other.
-use Rattle.layout.specs.Ran.{then, ran_length}
+use Rattle.layout.specs.Ran.{then}
 use Rattle.calls.specs.Placing.{end_record}
 use Rattle.placing.proofs.AbleLaws.{writes, bits_after, end_spot}
 use Rattle.placing.proofs.records.end_record.Goals as goal
@@ -20,6 +20,3 @@ pub returns : goal.returns
 unfolding end_record
 returns c =
     then c.write.ensures (then c.read-bits.ensures (rw (← c.bit_off.ensures) c.write-2.ensures))
-
-pub shape_of-store : goal.shape_of-store
-shape_of-store c = ran_length (returns c)

@@ -1,5 +1,4 @@
 -- `records::move_record` meets its contract: one step after the other.
-use Rattle.layout.specs.Ran.{ran_length}
 use Rattle.layout.specs.Able.{able_first, able_next}
 use Rattle.layout.specs.Moved.{after}
 use Rattle.calls.specs.Placing.{move_record}
@@ -29,6 +28,3 @@ pub returns : goal.returns
 unfolding move_record
 returns c =
     after c.read-tag.ensures (after c.read-payload.ensures (after c.end_record.ensures c.put_record.ensures))
-
-pub shape_of-store : goal.shape_of-store
-shape_of-store c = ran_length (returns c).ran

@@ -3,7 +3,6 @@ use mathlib.Core.Path.{refl}
 use native.Mathlib.Omega.{arith}
 use lib.Dec.{lit≤}
 use Rattle.layout.specs.Fields.{from_word}
-use Rattle.layout.specs.Ran.{ran_length}
 use Rattle.layout.specs.Moved.{moves, after}
 use Rattle.calls.specs.Placing.{put_record}
 use Rattle.placing.proofs.AbleLaws.{writes, held_after, slot_after, spot_after, bits_after, put_spot, put_fill, put_tag}
@@ -60,6 +59,3 @@ returns c =
     after c.write.ensures (after c.write-2.ensures (after c.write-3.ensures (after c.write-4.ensures
     (after c.read-bits.ensures (after (rw c.bit_on.ensures at c.write-5.ensures)
     (after (rw c.place_of-place.ensures at c.write-6.ensures) (moves c.filled.ensures c.write-6.ensures.good)))))))
-
-pub shape_of-store : goal.shape_of-store
-shape_of-store c = ran_length (returns c).ran

@@ -1,9 +1,8 @@
 -- `moves::replace` meets its contract: one step, then the other.
-use Rattle.layout.specs.Ran.{ran_length}
 use Rattle.layout.specs.Able.{able_first, able_next}
 use Rattle.layout.specs.Moved.{onto}
 use Rattle.calls.specs.Placing.{replace}
-use Rattle.placing.proofs.moves.replace.Goals as goal
+use Rattle.placing.proofs.moves.AnewMoves.move_slot.Goals as goal
 
 pub make_room-with_room-requires : goal.make_room-with_room-requires
 unfolding replace
@@ -20,6 +19,3 @@ unfolding replace
 returns c =
     let m = c.make_room-with_room.ensures in
     onto m (rw m.settings at c.move_record.ensures)
-
-pub shape_of-store : goal.shape_of-store
-shape_of-store c = ran_length (returns c).ran
