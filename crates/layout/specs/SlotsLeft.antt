@@ -1,4 +1,4 @@
--- What an iterator over standing slots has still to give.
+-- The slots that an iterator over standing slots has still to give.
 use Rattle.std.specs.Prelude.{List, ℕ}
 use Rattle.layout.specs.declared.standing.Slots.{Slots}
 use Rattle.layout.specs.Standing.{slots}
