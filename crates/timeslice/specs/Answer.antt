@@ -1,17 +1,16 @@
 -- WHAT A LOOK-BACK ANSWERS IN CODE, and the words that it leaves: those of the definition (calls, `look_back`), on any words and any two buffers.
-use Rattle.std.specs.Prelude.{◌≡◌, List, ℕ, ◌*◌, ◌≤◌, get_or}
-use Rattle.layout.specs.declared.head.Head.{Head}
+use Rattle.std.specs.Prelude.{◌≡◌, List, ℕ, ◌*◌, ◌≤◌, get_or, Result, Ok, Err}
 use Rattle.layout.specs.Sizes.{OPEN, row_len}
 use Rattle.calls.specs.Calls.{Row, View, Answer, Shown, Refused as RefusedBy}
-use Rattle.calls.specs.Walk.{Pass, Looked, unsoundly, looked}
+use Rattle.calls.specs.Walk.{Pass, unsoundly, looked}
 use Rattle.calls.specs.Refusals.{look_back_own}
 use Rattle.calls.specs.LookBack.{look_back, look_at, seen, view_of, row_words, written}
 use Rattle.queries.specs.Own.{OwnRefusal}
 use Rattle.timeslice.specs.declared.Slice.{Slice}
 use Rattle.timeslice.specs.declared.SliceAnswer.{SliceAnswer}
 use Rattle.timeslice.specs.declared.SliceAnswer.TheVariants.{Answered, Refused}
-use Rattle.timeslice.specs.declared.WalkAnswer.{WalkAnswer}
-use Rattle.timeslice.specs.declared.WalkAnswer.TheVariants.{Whole, Unsound}
+use Rattle.timeslice.specs.declared.Unsound.{Unsound}
+use Rattle.timeslice.specs.declared.past.Past.{Past}
 
 -- a view's three numbers, and its page on each of the three levels
 abbrev pub slice_of : View → Slice
@@ -35,17 +34,18 @@ pub record LookedBack (ws : List ℕ) (t : ℕ) (rows list : List ℕ) (r : Slic
 
 -- ---- the parts
 -- what the walk over the words says: its rows and list at the start of the buffers, or that it is unsound, the buffers being anything
-pub data WalkSays (w : Looked) (rows list : List ℕ) : WalkAnswer → List ℕ → List ℕ → Type 0 where
-  whole : {r : List Row} {l : List ℕ} {ps : List Pass} {s : Slice} {rows' list' : List ℕ} → w ≡ looked r l ps → s ≡ slice_of (view_of r l ps)
-      → rows' ≡ written (row_words r) rows → list' ≡ written l list → WalkSays w rows list (Whole s) rows' list'
-  broken : {rows' list' : List ℕ} → w ≡ unsoundly → WalkSays w rows list Unsound rows' list'
+pub data WalkSays (p : Past) (rows list : List ℕ) : Result Slice Unsound → List ℕ → List ℕ → Type 0 where
+  whole : {r : List Row} {l : List ℕ} {ps : List Pass} {s : Slice} {rows' list' : List ℕ} → look_at p.store.now p.second ≡ looked r l ps
+      → s ≡ slice_of (view_of r l ps) → rows' ≡ written (row_words r) rows → list' ≡ written l list → WalkSays p rows list (Ok s) rows' list'
+  broken : {e : Unsound} {rows' list' : List ℕ} → look_at p.store.now p.second ≡ unsoundly → WalkSays p rows list (Err e) rows' list'
 
 -- a look-back to which no refusal but 12 applies
-pub record Answers (ws : List ℕ) (t : ℕ) (rows list : List ℕ) (r : SliceAnswer) (rows' list' : List ℕ) : Type 0 where
-  pub answer : Says (seen rows list (look_at ws t)).answer r
-  pub row_words_lem : rows' ≡ (seen rows list (look_at ws t)).rows
-  pub list_words : list' ≡ (seen rows list (look_at ws t)).list
+pub record Answers (p : Past) (rows list : List ℕ) (r : SliceAnswer) (rows' list' : List ℕ) : Type 0 where
+  pub answer : Says (seen rows list (look_at p.store.now p.second)).answer r
+  pub row_words_lem : rows' ≡ (seen rows list (look_at p.store.now p.second)).rows
+  pub list_words : list' ≡ (seen rows list (look_at p.store.now p.second)).list
 
 -- what its own tests come to before the walk, for buffers of these lengths: n is the first of 5, 7 and 11 that applies; or 0, and both are long enough
-pub record SliceRefusal (h : Head) (t rows list n : ℕ) : Type 0 where
-  pub own : OwnRefusal (λ unsound. look_back_own h t rows list unsound) ((row_len * h.settings.tags ≤ rows) × (h.settings.blocks ≤ list)) n
+pub record SliceRefusal (p : Past) (rows list n : ℕ) : Type 0 where
+  pub own : OwnRefusal (λ unsound. look_back_own p.head p.second rows list unsound)
+      ((row_len * p.head.settings.tags ≤ rows) × (p.head.settings.blocks ≤ list)) n

@@ -1,3 +1,5 @@
+pub mod Opened
+pub mod Reading
 pub mod Taken
 pub mod Told
 pub mod Listed
@@ -7,7 +9,6 @@ pub mod TakenLaws
 pub mod ToldLaws
 pub mod VisitLaws
 pub mod ListedLaws
-pub mod InsideLaws
 pub mod VisitedLaws
 pub mod PathLaws
 pub mod SearchLaws

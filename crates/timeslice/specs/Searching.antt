@@ -1,43 +1,51 @@
 -- WHAT THE SEARCH ANSWERS: the block that starts the path, the pages read, and on each level the page passed.
-use Rattle.std.specs.Prelude.{cond, List, ℕ, ◌+◌, ◌*◌, ◌≤◌, ◌<◌, eqb, length}
-use Rattle.layout.specs.Sizes.{page_len, dir_start}
-use Rattle.calls.specs.Walk.{Finding, unsound, found, Pass, entries}
+use Rattle.std.specs.Prelude.{List, [], ◌∷◌, ℕ, zero, suc, ◌+◌, ◌*◌, ◌<◌, length, set, Option, None, Some, Result, Ok, Err}
+use Rattle.layout.specs.Sizes.{page_len}
+use Rattle.calls.specs.Walk.{Finding, unsound, found, Pass, entries, look_up, descend, search}
 use Rattle.calls.specs.LookBack.{passed_on}
+use Rattle.timeslice.specs.declared.Unsound.{Unsound}
+use Rattle.timeslice.specs.declared.past.Past.{Past}
 use Rattle.timeslice.specs.declared.index.PathStart.{PathStart}
-use Rattle.timeslice.specs.declared.index.Searched.{Searched}
-use Rattle.timeslice.specs.declared.index.Searched.TheVariants.{At, Unsound}
+use Rattle.timeslice.specs.Reading.{reader_of}
+
+-- the page passed on each of the three levels
+abbrev pub pages_of : List Pass → List ℕ
+pages_of ps = passed_on 0 ps ∷ passed_on 1 ps ∷ passed_on 2 ps ∷ []
 
 abbrev pub path_start : ℕ → List Pass → PathStart
-path_start n ps = record { block = n; read = length ps; page0 = passed_on 0 ps; page1 = passed_on 1 ps; page2 = passed_on 2 ps }
+path_start n ps = record { block = n; read = length ps; pages = pages_of ps }
 
-abbrev pub searched_of : Finding ℕ (List Pass) → Searched
-searched_of unsound = Unsound
-searched_of (found n ps) = At (path_start n ps)
+abbrev pub searched_of : Finding ℕ (List Pass) → Result PathStart Unsound
+searched_of unsound = Err (record {})
+searched_of (found n ps) = Ok (path_start n ps)
 
 -- one page more, passed before the others
 abbrev pub pass_over : ℕ → ℕ → PathStart → PathStart
-pass_over l e s = record {
-  block = s.block;
-  read = s.read + 1;
-  page0 = cond (eqb l 0) e s.page0;
-  page1 = cond (eqb l 1) e s.page1;
-  page2 = cond (eqb l 2) e s.page2;
-}
+pass_over l e s = record { block = s.block; read = s.read + 1; pages = set s.pages l e }
+
+-- an entry of a page, of which the definition has 1 + its number, or 0 if there is none
+abbrev pub entry_of : ℕ → Option ℕ
+entry_of zero = None
+entry_of (suc k) = Some k
+
+-- ---- the parts of the search, over what a look-back reads
+module _ (p : Past) where
+  abbrev pub looked_up : ℕ → ℕ → Option ℕ
+  looked_up l e = entry_of (look_up p.second p.head.cursor.opened (reader_of p) l e)
+
+  abbrev pub descended : ℕ → ℕ → Result PathStart Unsound
+  descended l e = searched_of (descend p.second p.head.cursor.opened (reader_of p) l e)
+
+  abbrev pub searched : Result PathStart Unsound
+  searched = searched_of (search p.second p.head.cursor.opened (reader_of p))
 
 -- ---- what is asked
--- a level of the index over no more blocks than a store can have
-pub record Level (opened l : ℕ) : Type 0 where
-  pub few : opened ≤ 4096
+-- page e of one of the three levels has an entry
+pub record OnPage (p : Past) (l e : ℕ) : Type 0 where
   pub three : l < 3
+  pub some : page_len * e < entries p.head.cursor.opened l
 
--- page e of level l has an entry
-pub record OnPage (ws : List ℕ) (opened l e : ℕ) : Type 0 where
-  pub level : Level opened l
-  pub some : page_len * e < entries opened l
-  pub long : dir_start ≤ length ws
-
--- level l has entry e
-pub record OnEntry (ws : List ℕ) (opened l e : ℕ) : Type 0 where
-  pub level : Level opened l
-  pub entry : e < entries opened l
-  pub long : dir_start ≤ length ws
+-- one of the three levels has entry e
+pub record OnEntry (p : Past) (l e : ℕ) : Type 0 where
+  pub three : l < 3
+  pub entry : e < entries p.head.cursor.opened l

@@ -1,21 +1,19 @@
 -- WHAT THE CODE'S ANSWER SAYS OF A WALK: its rows and its list stand in the two buffers, behind what was counted before.
 -- (`rows` and `list` are the buffers as they were lent, `rows'` and `list'` as they come back.)
-use Rattle.std.specs.Prelude.{◌≡◌, List, [], ◌∷◌, ℕ, ◌+◌, ◌*◌, ◌-◌, ◌≤◌, ◌<◌, length}
+use Rattle.std.specs.Prelude.{◌≡◌, List, [], ◌∷◌, ℕ, ◌+◌, ◌*◌, ◌-◌, ◌≤◌, ◌<◌, length, Result, Ok, Err}
 use Rattle.std.proofs.lemmas.List.Edits.{sets}
-use Rattle.layout.specs.declared.settings.Settings.{Settings}
 use Rattle.layout.specs.Sizes.{row_len}
 use Rattle.layout.specs.Address.{Numbered}
 use Rattle.layout.specs.Fields.{up_word}
 use Rattle.layout.specs.Parts.{block_word}
 use Rattle.calls.specs.Calls.{Row}
-use Rattle.calls.specs.Walk.{Reader, Walk, unsound, found, rows_of, neighbour, visit, path}
+use Rattle.calls.specs.Walk.{Walk, unsound, found, rows_of, neighbour, visit, path}
 use Rattle.calls.specs.LookBack.{row_words}
+use Rattle.timeslice.specs.declared.Unsound.{Unsound}
 use Rattle.timeslice.specs.declared.Counts.{Counts}
-use Rattle.timeslice.specs.declared.walk.Walked.{Walked}
-use Rattle.timeslice.specs.declared.walk.Walked.TheVariants.{Done, Unsound}
+use Rattle.timeslice.specs.declared.past.Past.{Past}
 use Rattle.timeslice.specs.declared.walk.PathBlock.{PathBlock}
-use Rattle.timeslice.specs.declared.walk.Climbed.{Climbed}
-use Rattle.timeslice.specs.declared.walk.Climbed.TheVariants.{On, Unsound as NotOn}
+use Rattle.timeslice.specs.Reading.{reader_of}
 
 -- rows r and list l stand in the buffers behind n's, m counts them too, and there are at most d rows
 pub record Filled (d : ℕ) (rows list : List ℕ) (n : Counts) (r : List Row) (l : List ℕ) (m : Counts) (rows' list' : List ℕ) : Type 0 where
@@ -27,69 +25,66 @@ pub record Filled (d : ℕ) (rows list : List ℕ) (n : Counts) (r : List Row) (
   pub list_words : list' ≡ sets list n.blocks l
 
 -- A walk is told, behind n: what it finds is filled in; or it is unsound; or with its rows there are more than d.
-pub data WalkTold (d : ℕ) (rows list : List ℕ) (n : Counts) : Walk → Walked → List ℕ → List ℕ → Type 0 where
+pub data WalkTold (d : ℕ) (rows list : List ℕ) (n : Counts) : Walk → Result Counts Unsound → List ℕ → List ℕ → Type 0 where
   done : {r : List Row} {l : List ℕ} {m : Counts} {rows' list' : List ℕ} → Filled d rows list n r l m rows' list'
-      → WalkTold d rows list n (found r l) (Done m) rows' list'
-  over : {r : List Row} {l : List ℕ} {rows' list' : List ℕ} → d < n.rows + length r → WalkTold d rows list n (found r l) Unsound rows' list'
-  bad : {rows' list' : List ℕ} → WalkTold d rows list n unsound Unsound rows' list'
+      → WalkTold d rows list n (found r l) (Ok m) rows' list'
+  over : {r : List Row} {l : List ℕ} {e : Unsound} {rows' list' : List ℕ} → d < n.rows + length r → WalkTold d rows list n (found r l) (Err e) rows' list'
+  bad : {e : Unsound} {rows' list' : List ℕ} → WalkTold d rows list n unsound (Err e) rows' list'
 
 -- A visit and a path, with any fuel that is enough.
-pub record VisitTold (s : Settings) (t : ℕ) (R : Reader) (lower upper number : ℕ) (rows list : List ℕ) (n : Counts) (a : Walked) (rows' list' : List ℕ)
+pub record VisitTold (p : Past) (lower upper number : ℕ) (rows list : List ℕ) (n : Counts) (a : Result Counts Unsound) (rows' list' : List ℕ)
     : Type 0 where
-  pub told : (f : ℕ) → upper - lower < f → WalkTold s.tags rows list n (visit s.block t R f lower upper number) a rows' list'
+  pub told : (f : ℕ) → upper - lower < f
+      → WalkTold p.head.settings.tags rows list n (visit p.head.settings.block p.second (reader_of p) f lower upper number) a rows' list'
 
-pub record PathTold (s : Settings) (t : ℕ) (R : Reader) (number : ℕ) (rows list : List ℕ) (n : Counts) (a : Walked) (rows' list' : List ℕ)
-    : Type 0 where
-  pub told : (f : ℕ) → number < f → WalkTold s.tags rows list n (path s.block t R f number) a rows' list'
+pub record PathTold (p : Past) (number : ℕ) (rows list : List ℕ) (n : Counts) (a : Result Counts Unsound) (rows' list' : List ℕ) : Type 0 where
+  pub told : (f : ℕ) → number < f → WalkTold p.head.settings.tags rows list n (path p.head.settings.block p.second (reader_of p) f number) a rows' list'
 
 -- ---- the parts of a path
 -- a block with its rows
-abbrev pub block_walk : Settings → ℕ → List ℕ → ℕ → Walk
-block_walk s t block number = found (rows_of s.block t block) (number ∷ [])
+abbrev pub block_walk : Past → ℕ → Walk
+block_walk p number = found (rows_of p.head.settings.block p.second ((reader_of p).block number)) (number ∷ [])
 
--- the up of a block, as a reader hands it out
-abbrev pub up_of : Reader → ℕ → ℕ
-up_of R n = block_word (R.block n) up_word
+-- the up of a block, as the store hands it out
+abbrev pub up_of : Past → ℕ → ℕ
+up_of p n = block_word ((reader_of p).block n) up_word
 
 -- a path block: its up is below it, it is listed, its rows are taken, and its left neighbour is next
-pub data Climbs (s : Settings) (t : ℕ) (R : Reader) (rows list : List ℕ) (n : Counts) (number : ℕ) : Climbed → List ℕ → List ℕ → Type 0 where
-  on : {i : PathBlock} {rows' list' : List ℕ} → up_of R number < number → i.up ≡ up_of R number → i.next ≡ neighbour R number
-      → WalkTold s.tags rows list n (block_walk s t (R.block number) number) (Done i.counts) rows' list'
-      → Climbs s t R rows list n number (On i) rows' list'
-  above : {rows' list' : List ℕ} → number ≤ up_of R number → Climbs s t R rows list n number NotOn rows' list'
-  full : {rows' list' : List ℕ} → up_of R number < number
-      → WalkTold s.tags rows list n (block_walk s t (R.block number) number) Unsound rows' list'
-      → Climbs s t R rows list n number NotOn rows' list'
+pub data Climbs (p : Past) (rows list : List ℕ) (n : Counts) (number : ℕ) : Result PathBlock Unsound → List ℕ → List ℕ → Type 0 where
+  on : {i : PathBlock} {rows' list' : List ℕ} → up_of p number < number → i.up ≡ up_of p number → i.next ≡ neighbour (reader_of p) number
+      → WalkTold p.head.settings.tags rows list n (block_walk p number) (Ok i.counts) rows' list' → Climbs p rows list n number (Ok i) rows' list'
+  above : {e : Unsound} {rows' list' : List ℕ} → number ≤ up_of p number → Climbs p rows list n number (Err e) rows' list'
+  full : {e : Unsound} {rows' list' : List ℕ} → up_of p number < number
+      → WalkTold p.head.settings.tags rows list n (block_walk p number) (Err e) rows' list' → Climbs p rows list n number (Err e) rows' list'
 
 -- ---- what is asked
 -- both buffers are long enough: refusal 11 does not apply
-pub record Buffers (s : Settings) (rows list : List ℕ) : Type 0 where
-  pub long_rows : row_len * s.tags ≤ length rows
-  pub long_list : s.blocks ≤ length list
+pub record Buffers (p : Past) (rows list : List ℕ) : Type 0 where
+  pub long_rows : row_len * p.head.settings.tags ≤ length rows
+  pub long_list : p.head.settings.blocks ≤ length list
 
 -- room for one block more
-pub record Space (s : Settings) (n : Counts) (rows list : List ℕ) : Type 0 where
-  pub buffers : Buffers s rows list
-  pub fits : n.rows ≤ s.tags
-  pub block : n.blocks < s.blocks
+pub record Space (p : Past) (n : Counts) (rows list : List ℕ) : Type 0 where
+  pub buffers : Buffers p rows list
+  pub fits : n.rows ≤ p.head.settings.tags
+  pub block : n.blocks < p.head.settings.blocks
 
--- room for a visit between two numbers, behind the block that it starts from: it lists fewer blocks than their gap
-pub record Gap (s : Settings) (lower upper : ℕ) (n : Counts) (rows list : List ℕ) : Type 0 where
-  pub buffers : Buffers s rows list
-  pub fits : n.rows ≤ s.tags
-  pub some : 0 < n.blocks
+-- room for a visit between two numbers: it lists fewer blocks than their gap
+pub record Gap (p : Past) (lower upper : ℕ) (n : Counts) (rows list : List ℕ) : Type 0 where
+  pub buffers : Buffers p rows list
+  pub fits : n.rows ≤ p.head.settings.tags
   pub gap : lower < upper
-  pub known : upper ≤ s.blocks + 1
-  pub blocks : n.blocks + upper ≤ s.blocks + 1 + lower
+  pub known : upper ≤ p.head.settings.blocks + 1
+  pub blocks : n.blocks + upper ≤ p.head.settings.blocks + 1 + lower
 
 -- room for a path from a block: it lists no more blocks than its number
-pub record Reach (s : Settings) (number : ℕ) (n : Counts) (rows list : List ℕ) : Type 0 where
-  pub buffers : Buffers s rows list
-  pub fits : n.rows ≤ s.tags
-  pub known : number ≤ s.blocks
-  pub blocks : n.blocks + number ≤ s.blocks
+pub record Reach (p : Past) (number : ℕ) (n : Counts) (rows list : List ℕ) : Type 0 where
+  pub buffers : Buffers p rows list
+  pub fits : n.rows ≤ p.head.settings.tags
+  pub known : number ≤ p.head.settings.blocks
+  pub blocks : n.blocks + number ≤ p.head.settings.blocks
 
 -- a block of the store whose up lies below it
-pub record Under (s : Settings) (R : Reader) (number : ℕ) : Type 0 where
-  pub numbered : Numbered s number
-  pub below : up_of R number < number
+pub record Under (p : Past) (number : ℕ) : Type 0 where
+  pub numbered : Numbered p.head.settings number
+  pub below : up_of p number < number

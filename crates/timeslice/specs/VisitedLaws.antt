@@ -1,5 +1,5 @@
 -- The rows of listed blocks, taken one after another, are those of the list.
-use Rattle.std.specs.Prelude.{◌≡◌, refl, ℕ, zero, suc, ◌+◌, ◌≤◌, ◌<◌, length, get_or, take, drop}
+use Rattle.std.specs.Prelude.{◌≡◌, refl, ℕ, zero, suc, ◌+◌, ◌≤◌, ◌<◌, length, get_or, take, drop, Result, Ok, Err}
 use Rattle.std.proofs.Common.{sym, ap, ◌∙◌, add-one, arith, length-append, take-append-drop, take_all, le-leb}
 use mathlib.Core.List.{List, [], ◌∷◌, ◌++◌, append-nil}
 use Rattle.std.proofs.Math.Seq.{take-suc}
@@ -9,8 +9,7 @@ use Rattle.layout.specs.Fields.{closed_word}
 use Rattle.layout.specs.Parts.{block_word}
 use Rattle.calls.specs.Walk.{Reader, rows_of}
 use Rattle.queries.specs.BlockLaws.{word_is}
-use Rattle.timeslice.specs.declared.rows.Took.{Took}
-use Rattle.timeslice.specs.declared.rows.Took.TheVariants.{Rows, TooMany}
+use Rattle.timeslice.specs.declared.Unsound.{Unsound}
 use Rattle.timeslice.specs.Taken.{Takes, all}
 use Rattle.timeslice.specs.TakenLaws.{taken_more, still_many}
 use Rattle.timeslice.specs.Listed.{rows_at, rows_in}
@@ -26,17 +25,17 @@ all_at (cons p a) (suc i) h = all_at a i (omega arith)
 module _ (b t : ℕ) (R : Reader) (n d : ℕ) (buffer : List ℕ) (given : ℕ) {block : List ℕ} (is : block ≡ R.block n) {closed : ℕ}
     (c : closed ≡ block_word block closed_word) where
   -- It closed by t,
-  pub block_ended : closed ≤ t → given ≤ d → Takes d buffer given (rows_at b t R n) (Rows given) buffer
+  pub block_ended : closed ≤ t → given ≤ d → Takes d buffer given (rows_at b t R n) (Ok given) buffer
   unfolding rows_at
   block_ended g f = rw (le-leb _ t (rw (word_is closed_word is c) at g)) (all {now = given} (omega arith) f refl)
 
   -- or its rows are taken.
-  pub block_taken : t < closed → {x : Took} {after : List ℕ} → Takes d buffer given (rows_of b t block) x after → Takes d buffer given (rows_at b t R n) x after
+  pub block_taken : t < closed → {x : Result ℕ Unsound} {after : List ℕ} → Takes d buffer given (rows_of b t block) x after → Takes d buffer given (rows_at b t R n) x after
   unfolding rows_at
   block_taken g taken = rw (lt-leb _ t (rw (word_is closed_word is c) at g)) (rw is at taken)
 
 -- ---- the blocks so far, and one more
-pub listed_none : (b t : ℕ) (R : Reader) (d : ℕ) (buffer : List ℕ) (given : ℕ) → given ≤ d → Takes d buffer given (rows_in b t R []) (Rows given) buffer
+pub listed_none : (b t : ℕ) (R : Reader) (d : ℕ) (buffer : List ℕ) (given : ℕ) → given ≤ d → Takes d buffer given (rows_in b t R []) (Ok given) buffer
 unfolding rows_in
 listed_none b t R d buffer given h = all {now = given} (omega arith) h refl
 
@@ -53,15 +52,15 @@ module _ (b t : ℕ) (R : Reader) (d : ℕ) (buffer : List ℕ) (given : ℕ) (l
       = ap (rows_in b t R) (sym (take-append-drop k l)) ∙ rows_append b t R (take k l) (drop k l) in
       rw e (simp length-append (omega arith))
 
-  module _ (i : ℕ) {mid : List ℕ} {now : ℕ} (so_far : Takes d buffer given (rows_in b t R (take i l)) (Rows now) mid) (h : i < length l)
-      {after : List ℕ} {x : Took} (next : Takes d mid now (rows_at b t R (get_or l i 0)) x after) where
-    pub listed_more : {y : Took} → x ≡ y → Takes d buffer given (rows_in b t R (take (i + 1) l)) y after
+  module _ (i : ℕ) {mid : List ℕ} {now : ℕ} (so_far : Takes d buffer given (rows_in b t R (take i l)) (Ok now) mid) (h : i < length l)
+      {after : List ℕ} {x : Result ℕ Unsound} (next : Takes d mid now (rows_at b t R (get_or l i 0)) x after) where
+    pub listed_more : {y : Result ℕ Unsound} → x ≡ y → Takes d buffer given (rows_in b t R (take (i + 1) l)) y after
     listed_more e = rw (one_more i h, ← e) (taken_more d buffer given so_far next)
 
-    pub listed_many : x ≡ TooMany → Takes d buffer given (rows_in b t R l) TooMany after
+    pub listed_many : {u : Unsound} → x ≡ Err u → Takes d buffer given (rows_in b t R l) (Err u) after
     listed_many e = still_many d buffer given (fewer (i + 1)) (listed_more e)
 
   -- after the last block
-  pub listed_all : (i : ℕ) → length l ≤ i → {x : Took} {after : List ℕ} → Takes d buffer given (rows_in b t R (take i l)) x after
+  pub listed_all : (i : ℕ) → length l ≤ i → {x : Result ℕ Unsound} {after : List ℕ} → Takes d buffer given (rows_in b t R (take i l)) x after
       → Takes d buffer given (rows_in b t R l) x after
   listed_all i h a = rw (take_all i l h) at a

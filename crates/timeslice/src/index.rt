@@ -1,12 +1,11 @@
 // The search in the index: from the top level's page down to the block that starts the path.
-ghost use Rattle.std.specs.Prelude.{◌≡◌, cond, [], ◌-◌, ◌*◌, ◌≤◌, ◌<◌, min, eqb, length};
+ghost use Rattle.std.specs.Prelude.{◌≡◌, [], ◌-◌, ◌*◌, ◌≤◌, ◌<◌, min, length};
 ghost use Rattle.layout.specs.Sizes.{page_len};
-ghost use Rattle.calls.specs.Walk.{last_up_to, entries as entries_of, top_level, look_up, descend as descend_of, search as search_of};
-ghost use Rattle.calls.specs.LookBack.{reader};
-ghost use Rattle.queries.specs.Readable.{Readable};
-ghost use Rattle.timeslice.specs.Searching.{path_start, pass_over, searched_of, Level, OnPage, OnEntry};
+ghost use Rattle.calls.specs.Walk.{entries as entries_of, top_level, last_up_to};
+ghost use Rattle.timeslice.specs.Searching.{path_start, pass_over, entry_of, looked_up, descended, searched, OnPage, OnEntry};
 
-use layout::head::Head;
+use crate::Unsound;
+use crate::past::Past;
 use layout::{PAGE, parts};
 
 // The block that starts the path, 0 if there is none; the pages read, and on each level the page passed, OPEN if none.
@@ -14,25 +13,7 @@ use layout::{PAGE, parts};
 pub struct PathStart {
     pub block: u32,
     pub read: u32,
-    pub page0: u32,
-    pub page1: u32,
-    pub page2: u32,
-}
-
-#[derive(Clone, Copy)]
-pub enum Searched {
-    At(PathStart),
-    Unsound,
-}
-
-// The page passed on level `on`, now that page e of level l is.
-fn passed_on(on: u32, l: u32, e: u32, before: u32) -> u32
-    ensures { result ≡ cond (eqb l on) e before }
-{
-    if l == on {
-        return e;
-    }
-    before
+    pub pages: [u32; 3],
 }
 
 impl PathStart {
@@ -43,61 +24,39 @@ impl PathStart {
         PathStart {
             block,
             read: 0,
-            page0: layout::OPEN,
-            page1: layout::OPEN,
-            page2: layout::OPEN,
+            pages: [layout::OPEN; 3],
         }
     }
 
     // Page e of level l is passed before the others.
     fn passing(self, l: u32, e: u32) -> PathStart
-        requires { self.read ≤ 2 }
+        requires few { self.read ≤ 2 }
+        requires level { l < 3 }
         ensures { result ≡ pass_over l e self }
     {
+        let mut pages = self.pages;
+        pages[l as usize] = e;
         PathStart {
-            block: self.block,
             read: self.read + 1,
-            page0: passed_on(0, l, e, self.page0),
-            page1: passed_on(1, l, e, self.page1),
-            page2: passed_on(2, l, e, self.page2),
+            pages,
+            ..self
         }
     }
 }
 
-// Of the first `count` words of a page, 1 + the last that is not after t; 0 if there is none.
-fn last_up_to(page: &[u32], count: u32, t: u32) -> u32
-    requires { count ≤ length page.now }
-    ensures { result ≡ last_up_to t count page.now }
-{
-    let mut k = count;
-    while 0 < k {
-        let last = k - 1;
-        if page[last as usize] <= t {
-            return k;
-        }
-        k = last;
-    }
-    0
-}
-
-// The entries of a level over the blocks opened: entries beyond are not entries.
+// The entries of a level over the blocks opened, one for each page of the level below: entries beyond are not entries.
 fn entries(opened: u32, l: u32) -> u32
-    requires { Level opened l }
     ensures { result ≡ entries_of opened l }
 {
-    if l == 0 {
-        return opened;
+    let mut count = opened;
+    for _ in 0..l {
+        count = count.div_ceil(PAGE);
     }
-    let first = (opened + (PAGE - 1)) / PAGE;
-    if l == 1 {
-        return first;
-    }
-    (first + (PAGE - 1)) / PAGE
+    count
 }
 
 // The lowest level that has all entries on one page.
 fn top_level(opened: u32) -> u32
-    requires { opened ≤ 4096 }
     ensures { result ≡ top_level opened }
 {
     if entries(opened, 0) <= PAGE {
@@ -111,62 +70,59 @@ fn top_level(opened: u32) -> u32
 
 // How many entries page e of level l has.
 fn on_page(opened: u32, l: u32, e: u32) -> u32
-    requires level { Level opened l }
+    requires few { opened ≤ 4096 }
     requires e_bound { page_len * e < entries_of opened l }
     ensures { result ≡ min page_len (entries_of opened l - page_len * e) }
 {
-    let left = entries(opened, l) - PAGE * e;
-    if left < PAGE {
-        return left;
-    }
-    PAGE
+    PAGE.min(entries(opened, l) - PAGE * e)
 }
 
-// What page e of level l gives: the page is a part in the middle of its level.
-fn look_up(store: &[u32], opened: u32, t: u32, l: u32, e: u32) -> u32
-    requires { OnPage store.now opened l e }
-    ensures { result ≡ look_up t opened (reader store.now) l e }
+// The last of a page's entries that is not after t.
+fn last_up_to(entries: &[u32], t: u32) -> Option<usize>
+    ensures { result ≡ entry_of (last_up_to t (length entries.now) entries.now) }
 {
-    let level = parts::level(store, l);
-    let page = parts::page(level, e);
-    last_up_to(page, on_page(opened, l, e), t)
+    entries.iter().rposition(|&from| from <= t)
 }
 
-// Below level l, from its entry e: a lower page with no entry up to t is unsound.
-fn descend(store: &[u32], opened: u32, t: u32, l: u32, e: u32) -> Searched
-    requires { OnEntry store.now opened l e }
-    ensures { result ≡ searched_of (descend_of t opened (reader store.now) l e) }
-{
-    if l == 0 {
-        return Searched::At(PathStart::at(e + 1));
+impl Past<'_> {
+    // The last entry up to the second on page e of level l, counted from 0 on the page, which is a part in the middle of its level.
+    fn look_up(&self, l: u32, e: u32) -> Option<u32>
+        requires { OnPage self.now l e }
+        ensures { result ≡ looked_up self.now l e }
+    {
+        let count = on_page(self.head.cursor.opened, l, e) as usize;
+        let page = parts::page(parts::level(self.store, l), e);
+        let last = last_up_to(&page[..count], self.second)?;
+        Some(last as u32)
     }
-    let below = l - 1;
-    let k = look_up(store, opened, t, below, e);
-    if k == 0 {
-        return Searched::Unsound;
-    }
-    match descend(store, opened, t, below, PAGE * e + (k - 1)) {
-        Searched::Unsound => Searched::Unsound,
-        Searched::At(found) => Searched::At(found.passing(below, e)),
-    }
-}
 
-// From the top page down: no page is read with N = 0, and the top page alone if it has no entry up to t.
-pub(crate) fn search(store: &[u32], h: Head, t: u32) -> Searched
-    requires { Readable store.now h }
-    ensures { result ≡ searched_of (search_of t h.cursor.opened (reader store.now)) }
-{
-    let opened = h.cursor.opened;
-    if opened == 0 {
-        return Searched::At(PathStart::at(0));
+    // Below level l, from its entry e: a lower page with no entry up to the second is unsound.
+    fn descend(&self, l: u32, e: u32) -> Result<PathStart, Unsound>
+        requires { OnEntry self.now l e }
+        ensures { result ≡ descended self.now l e }
+    {
+        if l == 0 {
+            return Ok(PathStart::at(e + 1));
+        }
+        let below = l - 1;
+        let k = self.look_up(below, e).ok_or(Unsound)?;
+        let found = self.descend(below, PAGE * e + k)?;
+        Ok(found.passing(below, e))
     }
-    let top = top_level(opened);
-    let k = look_up(store, opened, t, top, 0);
-    if k == 0 {
-        return Searched::At(PathStart::at(0).passing(top, 0));
-    }
-    match descend(store, opened, t, top, k - 1) {
-        Searched::Unsound => Searched::Unsound,
-        Searched::At(found) => Searched::At(found.passing(top, 0)),
+
+    // From the top page down: no page is read with N = 0, and the top page alone if it has no entry up to the second.
+    pub(crate) fn search(&self) -> Result<PathStart, Unsound>
+        ensures { result ≡ searched self.now }
+    {
+        let opened = self.head.cursor.opened;
+        if opened == 0 {
+            return Ok(PathStart::at(0));
+        }
+        let top = top_level(opened);
+        let Some(k) = self.look_up(top, 0) else {
+            return Ok(PathStart::at(0).passing(top, 0));
+        };
+        let found = self.descend(top, k)?;
+        Ok(found.passing(top, 0))
     }
 }

@@ -1,56 +1,56 @@
 // The row taker: it is handed a block, a part of the store, and writes the rows that stand at a second behind those already given.
-ghost use Rattle.std.specs.Prelude.{◌<◌};
+ghost use Rattle.std.specs.Prelude.{◌≡◌, ◌+◌, ◌*◌, ◌<◌, length};
+ghost use Rattle.layout.specs.Sizes.{block_head, record_len};
 ghost use Rattle.calls.specs.Walk.{row_of, rows_of};
-ghost use Rattle.timeslice.specs.Taken.{Takes, RowRoom};
+ghost use Rattle.timeslice.specs.Taken.{Takes, RowBuffer};
 
-use layout::settings::Settings;
+use crate::Unsound;
+use crate::past::Past;
 use layout::{fields, parts, payload};
 
-// Rows given so far, those taken counted; or there are more than D.
-#[derive(Clone, Copy)]
-pub enum Took {
-    Rows(u32),
-    TooMany,
-}
+impl Past<'_> {
+    // The row of slot k, if its record stands then: the rows given with it, and more of them than tags are unsound.
+    // Most records that do not stand have ended, so the end is tested first.
+    fn take_row(&self, block: &[u32], k: u32, rows: &mut [u32], given: u32) -> Result<u32, Unsound>
+        requires whole { length block.now ≡ block_head + record_len * self.now.head.settings.block }
+        requires k_lt_block { k < self.now.head.settings.block }
+        requires row_buffer { RowBuffer self.now given rows.old }
+        ensures { Takes self.now.head.settings.tags rows.old given (row_of self.now.second block.now k) result rows.new }
+    {
+        if parts::slot_word(block, k, fields::TO) <= self.second {
+            return Ok(given);
+        }
+        if self.second < parts::slot_word(block, k, fields::FROM) {
+            return Ok(given);
+        }
+        if self.head.settings.tags <= given {
+            return Err(Unsound);
+        }
+        let at = layout::ROW_LEN * given as usize;
+        let tag = parts::slot_word(block, k, fields::TAG);
+        let told = payload::in_slot(block, k);
+        rows[at] = tag;
+        rows[at + 1] = told.reading;
+        rows[at + 2] = told.since;
+        Ok(given + 1)
+    }
 
-// The row of slot k, if its record stands at t. Most that do not stand have ended, so the end is tested first.
-fn take_row(block: &[u32], k: u32, t: u32, s: Settings, rows: &mut [u32], given: u32) -> Took
-    requires k_lt_block { k < s.block }
-    requires row_room { RowRoom s block.now given rows.old }
-    ensures { Takes s.tags rows.old given (row_of t block.now k) result rows.new }
-{
-    if parts::slot_word(block, k, fields::TO) <= t {
-        return Took::Rows(given);
+    // The rows of a block, in slot order, of all its slots.
+    pub(crate) fn take_rows(
+        &self,
+        block: &[u32],
+        rows: &mut [u32],
+        given: u32,
+    ) -> Result<u32, Unsound>
+        requires whole { length block.now ≡ block_head + record_len * self.now.head.settings.block }
+        requires row_buffer { RowBuffer self.now given rows.old }
+        ensures { Takes self.now.head.settings.tags rows.old given (rows_of self.now.head.settings.block self.now.second block.now) result
+            rows.new }
+    {
+        let mut so_far = given;
+        for k in 0..self.head.settings.block {
+            so_far = self.take_row(block, k, rows, so_far)?;
+        }
+        Ok(so_far)
     }
-    if t < parts::slot_word(block, k, fields::FROM) {
-        return Took::Rows(given);
-    }
-    if s.tags <= given {
-        return Took::TooMany;
-    }
-    let at = layout::ROW_LEN * given as usize;
-    let tag = parts::slot_word(block, k, fields::TAG);
-    let told = payload::in_slot(block, k);
-    rows[at] = tag;
-    rows[at + 1] = told.reading;
-    rows[at + 2] = told.since;
-    Took::Rows(given + 1)
-}
-
-// The rows of a block at t, in slot order, of all its slots.
-pub(crate) fn take_rows(block: &[u32], t: u32, s: Settings, rows: &mut [u32], given: u32) -> Took
-    requires { RowRoom s block.now given rows.old }
-    ensures { Takes s.tags rows.old given (rows_of s.block t block.now) result
-        rows.new }
-{
-    let mut k = 0;
-    let mut so_far = given;
-    while k < s.block {
-        let Took::Rows(more) = take_row(block, k, t, s, rows, so_far) else {
-            return Took::TooMany;
-        };
-        so_far = more;
-        k += 1;
-    }
-    Took::Rows(so_far)
 }

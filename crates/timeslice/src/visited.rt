@@ -1,54 +1,45 @@
-// The rows of the blocks that a visit listed, in the list's order: of each that closes after t.
+// The rows of the blocks that a visit listed, in the list's order: of each that closes after the second.
 ghost use Rattle.base.specs.Sums.{All};
 ghost use Rattle.layout.specs.Address.{Numbered};
-ghost use Rattle.calls.specs.LookBack.{reader};
-ghost use Rattle.queries.specs.Readable.{Blocks};
-ghost use Rattle.timeslice.specs.Taken.{Takes};
-ghost use Rattle.timeslice.specs.Listed.{rows_at, rows_in, RowBuffer};
+ghost use Rattle.timeslice.specs.Reading.{reader_of};
+ghost use Rattle.timeslice.specs.Taken.{Takes, RowBuffer};
+ghost use Rattle.timeslice.specs.Listed.{rows_at, rows_in};
 
-use crate::rows;
-use crate::rows::Took;
-use layout::settings::Settings;
+use crate::Unsound;
+use crate::past::Past;
 use layout::{fields, parts};
 
-// The rows of one listed block, if it closes after t.
-fn take_block(store: &[u32], s: Settings, number: u32, t: u32, rows: &mut [u32], given: u32) -> Took
-    requires blocks { Blocks store.now s }
-    requires numbered { Numbered s number }
-    requires row_buffer { RowBuffer s given rows.old }
-    ensures { Takes s.tags rows.old given
-        (rows_at s.block t (reader store.now) number) result rows.new }
-{
-    let block = parts::block(store, s, number);
-    if parts::block_word(block, fields::CLOSED) <= t {
-        return Took::Rows(given);
+impl Past<'_> {
+    // The rows of one listed block, if it closes after the second.
+    fn take_block(&self, number: u32, rows: &mut [u32], given: u32) -> Result<u32, Unsound>
+        requires numbered { Numbered self.now.head.settings number }
+        requires row_buffer { RowBuffer self.now given rows.old }
+        ensures { Takes self.now.head.settings.tags rows.old given
+            (rows_at self.now.head.settings.block self.now.second (reader_of self.now) number) result rows.new }
+    {
+        let block = parts::block(self.store, self.head.settings, number);
+        if parts::block_word(block, fields::CLOSED) <= self.second {
+            return Ok(given);
+        }
+        self.take_rows(block, rows, given)
     }
-    rows::take_rows(block, t, s, rows, given)
-}
 
-// The rows of all blocks listed.
-pub(crate) fn take_listed(
-    store: &[u32],
-    s: Settings,
-    listed: &[u32],
-    t: u32,
-    rows: &mut [u32],
-    given: u32,
-) -> Took
-    requires blocks { Blocks store.now s }
-    requires all { All (Numbered s) listed.now }
-    requires row_buffer { RowBuffer s given rows.old }
-    ensures { Takes s.tags rows.old given
-        (rows_in s.block t (reader store.now) listed.now) result rows.new }
-{
-    let mut i = 0;
-    let mut so_far = given;
-    while i < listed.len() {
-        let Took::Rows(more) = take_block(store, s, listed[i], t, rows, so_far) else {
-            return Took::TooMany;
-        };
-        so_far = more;
-        i += 1;
+    // The rows of all blocks listed.
+    pub(crate) fn take_listed(
+        &self,
+        listed: &[u32],
+        rows: &mut [u32],
+        given: u32,
+    ) -> Result<u32, Unsound>
+        requires all { All (Numbered self.now.head.settings) listed.now }
+        requires row_buffer { RowBuffer self.now given rows.old }
+        ensures { Takes self.now.head.settings.tags rows.old given
+            (rows_in self.now.head.settings.block self.now.second (reader_of self.now) listed.now) result rows.new }
+    {
+        let mut so_far = given;
+        for &number in listed {
+            so_far = self.take_block(number, rows, so_far)?;
+        }
+        Ok(so_far)
     }
-    Took::Rows(so_far)
 }

@@ -6,21 +6,11 @@ use Rattle.timeslice.proofs.look_back.Goals as goal
 pub returns-then-n-ne0 : goal.returns-then-n-ne0
 returns-then-n-ne0 c = store_refused _ _ _ _ c.open-n.ensures c.if-n-ne0.true
 
-pub head_of-h-requires : goal.head_of-h-requires
-head_of-h-requires c = has_head c.open-n.ensures c.if-n-ne0.false
-
-pub turned_away-m-requires : goal.turned_away-m-requires
-turned_away-m-requires c = (ready_by c.open-n.ensures c.if-n-ne0.false c.head_of-h.ensures).sound.within
+pub invariant_of-past : goal.invariant_of-past
+invariant_of-past c = record { readable = ready_by c.open-n.ensures c.if-n-ne0.false c.head_of-head.ensures }
 
 pub returns-then-m-ne0 : goal.returns-then-m-ne0
-returns-then-m-ne0 c =
-    slice_refused _ _ _ _ c.open-n.ensures c.if-n-ne0.false c.head_of-h.ensures c.turned_away-m.ensures c.if-m-ne0.true
-
-pub answer-requires : goal.answer-requires
-answer-requires c =
-    record { readable = ready_by c.open-n.ensures c.if-n-ne0.false c.head_of-h.ensures; buffers = buffers_ready c.turned_away-m.ensures c.if-m-ne0.false }
+returns-then-m-ne0 c = slice_refused _ c.open-n.ensures c.if-n-ne0.false c.turned_away-m.ensures c.if-m-ne0.true
 
 pub returns : goal.returns
-returns c =
-    slice_answers _ _ _ _ c.open-n.ensures c.if-n-ne0.false c.head_of-h.ensures
-    c.turned_away-m.ensures c.if-m-ne0.false c.answer.ensures
+returns c = slice_answers _ c.open-n.ensures c.if-n-ne0.false c.turned_away-m.ensures c.if-m-ne0.false c.answer.ensures

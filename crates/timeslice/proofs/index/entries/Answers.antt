@@ -1,13 +1,15 @@
--- `index::entries` meets its contract, level by level.
-use native.Mathlib.Omega.{arith}
-use Rattle.timeslice.specs.SearchLaws.{entries_ground, entries_first, entries_second}
+-- `entries` meets its contract: level 0 has an entry for each block opened, and each further level one for each page.
+use Rattle.std.proofs.Common.{◌≡◌, arith, ◌∙◌, ap}
+use Rattle.std.specs.Int.{div_ceil}
+use Rattle.calls.specs.Walk.{entries}
+use Rattle.timeslice.specs.SearchLaws.{entries_first, entries_more}
 use Rattle.timeslice.proofs.index.entries.Goals as goal
 
-pub returns-then-l-eq0 : goal.returns-then-l-eq0
-returns-then-l-eq0 c = entries_ground _ c.if-l-eq0.true
+pub loop-init : goal.loop-init
+loop-init c = entries_first _
 
-pub returns-then-l-eq1 : goal.returns-then-l-eq1
-returns-then-l-eq1 c = entries_first _ c.if-l-eq1.true
+pub loop-preserved : goal.loop-preserved
+loop-preserved c = c.div_ceil-count.ensures ∙ rw c.loop.invariant (entries_more _ _)
 
 pub returns : goal.returns
-returns c = entries_second _ (omega (arith, c.requires.three, c.if-l-eq0.false, c.if-l-eq1.false))
+returns c = let e : c.loop.counter ≡ c.args.l = omega arith in rw e at c.loop.invariant

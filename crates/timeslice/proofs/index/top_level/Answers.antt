@@ -1,4 +1,4 @@
--- `index::top_level` meets its contract.
+-- `top_level` meets its contract.
 use Rattle.timeslice.specs.SearchLaws.{top_ground, top_first, top_second}
 use Rattle.timeslice.proofs.index.top_level.Goals as goal
 
