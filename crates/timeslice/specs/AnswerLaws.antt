@@ -1,21 +1,23 @@
 -- The whole look-back's answers: the refusals in their order, and what search and path come to.
-use Rattle.std.specs.Prelude.{◌≡◌, ◌≢◌, Bool, true, false, cond, ◌||◌, List, ℕ, suc, ◌≤◌, eqb, length, get_or, Result, Ok, Err}
+use Rattle.std.specs.Prelude.{◌≡◌, Bool, true, false, cond, ◌||◌, List, ℕ, suc, ◌≤◌, eqb, length, get_or, Result, Ok, Err}
 use Rattle.std.proofs.Math.Path.{refl}
 use Rattle.std.proofs.Common.{sym, ap, ◌∙◌, arith, lt-ltb, le-ltb}
-use Rattle.layout.specs.RefusalNumbers.{UNSOUND}
+use Rattle.layout.specs.declared.refusal.Refusal.{Refusal}
+use Rattle.layout.specs.declared.refusal.Refusal.TheVariants as refusal
+use Rattle.layout.specs.declared.head.Head.{Head}
+use Rattle.layout.specs.RefusalNumbers.{UNSOUND, number}
 use Rattle.layout.specs.Head.{head_of}
-use Rattle.calls.specs.Calls.{Row, Refused as RefusedBy}
+use Rattle.calls.specs.Calls.{Row, Refused}
 use Rattle.calls.specs.Walk.{Reader, Finding, found, Pass, Walk, unsound, path, search, unsoundly, looked, within, look}
-use Rattle.calls.specs.Refusals.{refusal, look_back_own, look_back_tests}
+use Rattle.calls.specs.Refusals.{Test, refusal, look_back_own, look_back_tests}
 use Rattle.calls.specs.LookBack.{look_back, look_at, seen, view_of, row_words, zeros, is_unsound}
-use Rattle.queries.specs.Readable.{Opens}
+use Rattle.queries.specs.declared.opened.Opened.{Opened}
+use Rattle.queries.specs.Opens.{Opens}
 use Rattle.queries.specs.OpenLaws.{shut_by, own_free, own_refused, own_passed}
 use Rattle.queries.specs.RowLaws.{words_length, sets_written}
 use Rattle.timeslice.specs.declared.Unsound.{Unsound}
 use Rattle.timeslice.specs.declared.Counts.{Counts}
 use Rattle.timeslice.specs.declared.Slice.{Slice}
-use Rattle.timeslice.specs.declared.SliceAnswer.{SliceAnswer}
-use Rattle.timeslice.specs.declared.SliceAnswer.TheVariants.{Answered, Refused}
 use Rattle.timeslice.specs.declared.past.Past.{Past}
 use Rattle.timeslice.specs.declared.index.PathStart.{PathStart}
 use Rattle.timeslice.specs.Reading.{reader_of}
@@ -25,7 +27,7 @@ use Rattle.timeslice.specs.PathLaws.{path_short}
 use Rattle.timeslice.specs.VisitLaws.{short_found}
 use Rattle.timeslice.specs.Searching.{path_start, searched_of, searched}
 use Rattle.timeslice.specs.SearchLaws.{search_few}
-use Rattle.timeslice.specs.Answer.{slice_of, view, number, LookedBack, WalkSays, whole, broken, Answers, SliceRefusal}
+use Rattle.timeslice.specs.Answer.{slice_of, view, turned, LookedBack, WalkSays, whole, broken, Answers, SliceRefusal}
 
 -- ---- the whole call, by its first refusal
 -- none but the walk's
@@ -37,11 +39,11 @@ module _ (ws : List ℕ) (t : ℕ) (rows list : List ℕ) where
   abbrev first : ℕ
   first = refusal (look_back_tests ws t (length rows) (length list) (is_unsound (look_at ws t)))
 
-  refused_is : (n : ℕ) → first ≡ n → (eqb n 0 || eqb n UNSOUND) ≡ false → LookedBack ws t rows list (Refused n) rows list
+  refused_is : {e : Refusal} → first ≡ number e → (eqb (number e) 0 || eqb (number e) UNSOUND) ≡ false → LookedBack ws t rows list (Err e) rows list
   unfolding look_back
-  refused_is n q f =
-      let e : look_back ws t rows list ≡ record { answer = RefusedBy n; rows = rows; list = list } = rw (q, f) in
-      record { answer = rw e number; row_words_lem = rw e; list_words = rw e }
+  refused_is {e} q f =
+      let i : look_back ws t rows list ≡ record { answer = Refused (number e); rows = rows; list = list } = rw (q, f) in
+      record { answer = rw i (turned refl); row_words_lem = rw i; list_words = rw i }
 
   -- what the walk saw is the answer, where no refusal but 12 applies
   seen_is : first ≡ cond (is_unsound (look_at ws t)) UNSOUND 0 → look_back ws t rows list ≡ seen rows list (look_at ws t)
@@ -49,29 +51,28 @@ module _ (ws : List ℕ) (t : ℕ) (rows list : List ℕ) where
   seen_is q = rw (q, walk_only (is_unsound (look_at ws t)))
 
   -- The store is refused,
-  pub store_refused : {n : ℕ} → Opens ws n → n ≢ 0 → LookedBack ws t rows list (Refused n) rows list
-  store_refused {n} o d =
-      let z = shut_by o d in
-      refused_is n (z.0 (look_back_own (head_of ws) t (length rows) (length list) (is_unsound (look_at ws t)))) z.1
+  pub store_refused : {e : Refusal} → Opens ws (Err e) → LookedBack ws t rows list (Err e) rows list
+  store_refused o =
+      let z = shut_by o in
+      refused_is (z.0 (look_back_own (head_of ws) t (length rows) (length list) (is_unsound (look_at ws t)))) z.1
 
 -- or one of its own tests applies,
-module _ (p : Past) {rows list : List ℕ} {n m : ℕ} (o : Opens p.store.now n) (z : n ≡ 0) (w : SliceRefusal p (length rows) (length list) m) where
-  pub slice_refused : m ≢ 0 → LookedBack p.store.now p.second rows list (Refused m) rows list
-  slice_refused d =
-      let q = own_refused (λ x u. look_back_own x p.second (length rows) (length list) u) o z p.readable.is (is_unsound (look_at p.store.now p.second)) w.own d in
-      refused_is p.store.now p.second rows list m q.0 q.1
+module _ (p : Past) {o : Opened} (opens : Opens p.store.now (Ok o)) (same : p.head ≡ o.head) {rows list : List ℕ} where
+  pub slice_refused : {e : Refusal} → SliceRefusal p (length rows) (length list) (Err e) → LookedBack p.store.now p.second rows list (Err e) rows list
+  slice_refused w =
+      let q = own_refused (λ (x : Head) (u : Bool). look_back_own x p.second (length rows) (length list) u) opens (is_unsound (look_at p.store.now p.second)) (rw same at w.own) in
+      refused_is p.store.now p.second rows list q.0 q.1
 
   -- or none does, and the walk may run: its answer is the call's.
-  pub slice_answers : {r : SliceAnswer} {rows' list' : List ℕ} → m ≡ 0 → Answers p rows list r rows' list'
+  pub slice_answers : {r : Result Slice Refusal} {rows' list' : List ℕ} → SliceRefusal p (length rows) (length list) (Ok tt) → Answers p rows list r rows' list'
       → LookedBack p.store.now p.second rows list r rows' list'
-  slice_answers k a =
+  slice_answers w a =
       let e = seen_is p.store.now p.second rows list
-      (own_passed (λ x u. look_back_own x p.second (length rows) (length list) u) o z p.readable.is (is_unsound (look_at p.store.now p.second))
-      (own_free w.own k)) in
+      (own_passed (λ (x : Head) (u : Bool). look_back_own x p.second (length rows) (length list) u) opens (is_unsound (look_at p.store.now p.second)) (own_free (rw same at w.own))) in
       record { answer = rw e a.answer; row_words_lem = a.row_words_lem ∙ rw e; list_words = a.list_words ∙ rw e }
 
-pub buffers_ready : {p : Past} {m : ℕ} {rows list : List ℕ} → SliceRefusal p (length rows) (length list) m → m ≡ 0 → Buffers p rows list
-buffers_ready w k = let q = own_free w.own k in record { long_rows = q.room.0; long_list = q.room.1 }
+pub buffers_ready : {p : Past} {rows list : List ℕ} → SliceRefusal p (length rows) (length list) (Ok tt) → Buffers p rows list
+buffers_ready w = let q = own_free w.own in record { long_rows = q.room.0; long_list = q.room.1 }
 
 -- ---- search and path
 -- what was searched, taken apart
@@ -91,7 +92,7 @@ counts_are e f g = rw (← e, ← f, ← g)
 
 slice_is : {m : Counts} {s : PathStart} (r : List Row) (l : List ℕ) (ps : List Pass) → m.rows ≡ length r → m.pages ≡ s.read → m.blocks ≡ length l
     → s ≡ path_start s.block ps
-    → ◌≡◌ {A = Slice} (record { counts = m; page0 = get_or s.pages 0 0; page1 = get_or s.pages 1 0; page2 = get_or s.pages 2 0 }) (slice_of (view_of r l ps))
+    → ◌≡◌ {A = Slice} (record { counts = m; pages = s.pages }) (slice_of (view_of r l ps))
 slice_is {m} {s} r l ps e f g q =
     let read : m.pages ≡ length ps = f ∙ ap (λ (x : PathStart). x.read) q in
     let pages : s.pages ≡ (path_start s.block ps).pages = ap (λ (x : PathStart). x.pages) q in
@@ -144,7 +145,7 @@ module _ (p : Past) where
             broken (look_is ∙ rw q (told_unsound ps refl (rw e at (told.told (suc s.block) (omega arith)))))
 
         pub slices_whole : {m : Counts} → a ≡ Ok m → WalkSays p rows list
-            (Ok (record { counts = m; page0 = get_or s.pages 0 0; page1 = get_or s.pages 1 0; page2 = get_or s.pages 2 0 })) rows' list'
+            (Ok (record { counts = m; pages = s.pages })) rows' list'
         slices_whole {m} e =
             let (ps, q, i) = searched_at (search p.second p.head.cursor.opened (reader_of p)) (sym search_says ∙ n) in
             let (r, l, w, f) = told_found (rw e at (told.told (suc s.block) (omega arith))) in
@@ -161,18 +162,18 @@ module _ (p : Past) where
 
 -- ---- what was seen is answered
 module _ {p : Past} {rows list : List ℕ} {x : Result Slice Unsound} {rows₁ list₁ : List ℕ} (says : WalkSays p rows list x rows₁ list₁) where
-  answers_whole : {s : Slice} → WalkSays p rows list (Ok s) rows₁ list₁ → Answers p rows list (Answered s) rows₁ list₁
+  answers_whole : {s : Slice} → WalkSays p rows list (Ok s) rows₁ list₁ → Answers p rows list (Ok s) rows₁ list₁
   answers_whole (whole w e q r) = record { answer = rw w (view e); row_words_lem = rw w q; list_words = rw w r }
 
-  pub answer_whole : {s : Slice} → x ≡ Ok s → Answers p rows list (Answered s) rows₁ list₁
+  pub answer_whole : {s : Slice} → x ≡ Ok s → Answers p rows list (Ok s) rows₁ list₁
   answer_whole e = answers_whole (rw e at says)
 
-  answers_broken : {u : Unsound} → WalkSays p rows list (Err u) rows₁ list₁ → Answers p rows list (Refused UNSOUND) (zeros rows) (zeros list)
-  answers_broken (broken w) = record { answer = rw w number; row_words_lem = rw w; list_words = rw w }
+  answers_broken : {u : Unsound} → WalkSays p rows list (Err u) rows₁ list₁ → Answers p rows list (Err refusal.Unsound) (zeros rows) (zeros list)
+  answers_broken (broken w) = record { answer = rw w (turned refl); row_words_lem = rw w; list_words = rw w }
 
   -- both buffers are filled with zeros, as long as they were
   pub answer_broken : {u : Unsound} → x ≡ Err u → length rows₁ ≡ length rows → length list₁ ≡ length list → {rows₂ list₂ : List ℕ}
-      → rows₂ ≡ zeros rows₁ → list₂ ≡ zeros list₁ → Answers p rows list (Refused UNSOUND) rows₂ list₂
+      → rows₂ ≡ zeros rows₁ → list₂ ≡ zeros list₁ → Answers p rows list (Err refusal.Unsound) rows₂ list₂
   answer_broken e same_rows same_list q r =
       let z = answers_broken (rw e at says) in
       rw (q, r, same_rows, same_list) z

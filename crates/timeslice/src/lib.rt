@@ -10,7 +10,8 @@ mod walk;
 ghost use Rattle.timeslice.specs.Told.{Buffers};
 ghost use Rattle.timeslice.specs.Answer.{LookedBack, WalkSays, Answers, SliceRefusal};
 
-use layout::{head, parts, refusal};
+use layout::parts;
+use layout::refusal::Refusal;
 use past::Past;
 
 // A word of the store that the walk reads is unsound: a link, or more rows than tags. (Which one is not told.)
@@ -29,35 +30,27 @@ pub struct Counts {
 #[derive(Clone, Copy)]
 pub struct Slice {
     pub counts: Counts,
-    pub page0: u32,
-    pub page1: u32,
-    pub page2: u32,
-}
-
-#[derive(Clone, Copy)]
-pub enum SliceAnswer {
-    Answered(Slice),
-    Refused(u32),
+    pub pages: [u32; 3],
 }
 
 impl Past<'_> {
-    // Refusals 5, 7 and 11, in order, for a store that was opened; 0 if none applies.
-    fn turned_away(&self, rows: usize, list: usize) -> u32
+    // Refusals 5, 7 and 11, in order, for a store that was opened.
+    fn test(&self, rows: usize, list: usize) -> Result<(), Refusal>
         ensures { SliceRefusal self.now rows list result }
     {
         if self.second == layout::OPEN {
-            return refusal::TIME_OPEN;
+            return Err(Refusal::TimeOpen);
         }
         if self.head.cursor.clock < self.second {
-            return refusal::LATE;
+            return Err(Refusal::Late);
         }
         if rows < layout::ROW_LEN * self.head.settings.tags as usize {
-            return refusal::SHORT_BUFFER;
+            return Err(Refusal::ShortBuffer);
         }
         if list < self.head.settings.blocks as usize {
-            return refusal::SHORT_BUFFER;
+            return Err(Refusal::ShortBuffer);
         }
-        0
+        Ok(())
     }
 
     // Search, then the path from the block found.
@@ -72,49 +65,42 @@ impl Past<'_> {
             blocks: 0,
         };
         let counts = self.path(found.block, rows, list, none)?;
-        let [page0, page1, page2] = found.pages;
-        Ok(Slice {
-            counts,
-            page0,
-            page1,
-            page2,
-        })
+        let pages = found.pages;
+        Ok(Slice { counts, pages })
     }
 
     // The walk's answer; where it is unsound, refusal 12 fills both buffers with zeros.
-    fn answer(&self, rows: &mut [u32], list: &mut [u32]) -> SliceAnswer
+    fn answer(&self, rows: &mut [u32], list: &mut [u32]) -> Result<Slice, Refusal>
         requires { Buffers self.now rows.old list.old }
         ensures { Answers self.now rows.old list.old result rows.new list.new }
     {
         match self.look(rows, list) {
-            Ok(slice) => SliceAnswer::Answered(slice),
+            Ok(slice) => Ok(slice),
             Err(Unsound) => {
                 parts::zero_all(rows);
                 parts::zero_all(list);
-                SliceAnswer::Refused(refusal::UNSOUND)
+                Err(Refusal::Unsound)
             }
         }
     }
 }
 
 // What stood at a second: its rows go into the one buffer, the reading list into the other. Refused for the first reason that applies, on any words.
-pub fn look_back(store: &[u32], second: u32, rows: &mut [u32], list: &mut [u32]) -> SliceAnswer
+pub fn look_back(
+    store: &[u32],
+    second: u32,
+    rows: &mut [u32],
+    list: &mut [u32],
+) -> Result<Slice, Refusal>
     ensures { LookedBack store.now second
         rows.old list.old result rows.new list.new }
 {
-    let n = queries::open(store);
-    if n != 0 {
-        return SliceAnswer::Refused(n);
-    }
-    let head = head::head_of(store);
+    let opened = queries::open(store)?;
     let past = Past {
         store,
-        head,
+        head: opened.head,
         second,
     };
-    let m = past.turned_away(rows.len(), list.len());
-    if m != 0 {
-        return SliceAnswer::Refused(m);
-    }
+    past.test(rows.len(), list.len())?;
     past.answer(rows, list)
 }

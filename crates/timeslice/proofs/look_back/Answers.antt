@@ -1,16 +1,25 @@
 -- `look_back` meets its contract: refusals 2, 3 and 4 are the store's, 5 to 11 its own tests', 12 the walk's.
-use Rattle.queries.specs.OpenLaws.{has_head, ready_by}
+use mathlib.Core.Path.{refl}
+use Rattle.std.proofs.lemmas.Result.{err_from_is_err_and}
+use Rattle.queries.specs.OpenLaws.{ready_by}
 use Rattle.timeslice.specs.AnswerLaws.{store_refused, slice_refused, slice_answers, buffers_ready}
 use Rattle.timeslice.proofs.look_back.Goals as goal
 
-pub returns-then-n-ne0 : goal.returns-then-n-ne0
-returns-then-n-ne0 c = store_refused _ _ _ _ c.open-n.ensures c.if-n-ne0.true
+pub returns-in_err-opened : goal.returns-in_err-opened
+returns-in_err-opened c =
+    let p = err_from_is_err_and c.from_residual.result c.from_residual.ensures.1 in
+    rw (p.1, p.2) (store_refused _ _ _ _ c.in_err-opened.ensures)
 
 pub invariant_of-past : goal.invariant_of-past
-invariant_of-past c = record { readable = ready_by c.open-n.ensures c.if-n-ne0.false c.head_of-head.ensures }
+invariant_of-past c = record { readable = ready_by c.in_ok-opened.ensures }
 
-pub returns-then-m-ne0 : goal.returns-then-m-ne0
-returns-then-m-ne0 c = slice_refused _ c.open-n.ensures c.if-n-ne0.false c.turned_away-m.ensures c.if-m-ne0.true
+pub returns-in_err-test : goal.returns-in_err-test
+returns-in_err-test c =
+    let p = err_from_is_err_and c.from_residual-in_err-test.result c.from_residual-in_err-test.ensures.1 in
+    rw (p.1, p.2) (slice_refused _ c.in_ok-opened.ensures refl c.in_err-test.ensures)
+
+pub answer-requires : goal.answer-requires
+answer-requires c = buffers_ready c.in_ok-test.ensures
 
 pub returns : goal.returns
-returns c = slice_answers _ c.open-n.ensures c.if-n-ne0.false c.turned_away-m.ensures c.if-m-ne0.false c.answer.ensures
+returns c = slice_answers _ c.in_ok-opened.ensures refl c.in_ok-test.ensures c.answer.ensures

@@ -23,12 +23,11 @@ returns-in_err-after t c =
     c.if-block_word-self.false c.block_word-child.ensures c.block_word-left.ensures c.visit.ensures c.in_err-after.was)
 
 pub visit-requires-2 : goal.visit-requires-2
-visit-requires-2 t c =
-    (
-      omega (arith, c.decreases, c.if-number-lower.false, c.if-upper-number.false),
-      left_room c.if-number-lower.false c.if-upper-number.false (block_is c.args.self.now.readable c.block-block.ensures) c.block_word.ensures
+visit-requires-2 t c = (
+  omega (arith, c.decreases, c.if-number-lower.false, c.if-upper-number.false),
+  left_room c.if-number-lower.false c.if-upper-number.false (block_is c.args.self.now.readable c.block-block.ensures) c.block_word.ensures
       c.if-block_word-self.false c.block_word-child.ensures c.block_word-left.ensures c.visit.ensures c.in_ok-after.was c.requires c.visit.auto.list,
-    )
+)
 
 pub returns : goal.returns
 returns t c =

@@ -1,7 +1,7 @@
--- `turned_away` meets its contract: each test is one of the table's.
+-- `test` meets its contract: each test is one of the table's.
 use Rattle.std.proofs.Common.{arith}
 use Rattle.timeslice.specs.TurnedAwayLaws.{own_open, own_late, own_rows, own_list, own_none}
-use Rattle.timeslice.proofs.past.Past.turned_away.Goals as goal
+use Rattle.timeslice.proofs.past.Past.test.Goals as goal
 
 pub returns-then-self : goal.returns-then-self
 returns-then-self c = own_open c.if-self.true
