@@ -1,11 +1,10 @@
 // ANY CALL as one value, and what comes back: one step of a history (calls.specs.History).
-ghost use Rattle.std.specs.Prelude.{◌≡◌};
-ghost use Rattle.applying.specs.Applied.{change_answer, slice_answer, Applied};
+ghost use Rattle.applying.specs.Applied.{Applied};
 
-use changes::Change;
 use layout::head::Head;
+use layout::refusal::Refusal;
 use layout::settings::Settings;
-use timeslice::{Slice, SliceAnswer};
+use timeslice::Slice;
 
 // The six calls. A look-back's two buffers are lent beside it.
 #[derive(Clone, Copy)]
@@ -24,43 +23,35 @@ pub enum Call {
     LookBack(u32),
 }
 
-// The next head, a look-back's numbers and pages, or a refusal by its number.
+// What an accepted call gives: the next head, or a look-back's numbers and pages.
 #[derive(Clone, Copy)]
 pub enum Answer {
     Done(Head),
     Shown(Slice),
-    Refused(u32),
-}
-
-fn changed(c: Change) -> Answer
-    ensures { result ≡ change_answer c }
-{
-    match c {
-        Change::Done(h) => Answer::Done(h),
-        Change::Refused(n) => Answer::Refused(n),
-    }
-}
-
-fn shown(l: SliceAnswer) -> Answer
-    ensures { result ≡ slice_answer l }
-{
-    match l {
-        SliceAnswer::Answered(s) => Answer::Shown(s),
-        SliceAnswer::Refused(n) => Answer::Refused(n),
-    }
 }
 
 // One call. Only a look-back touches the two buffers.
-pub fn apply(store: &mut [u32], call: Call, rows: &mut [u32], list: &mut [u32]) -> Answer
+pub fn apply(
+    store: &mut [u32],
+    call: Call,
+    rows: &mut [u32],
+    list: &mut [u32],
+) -> Result<Answer, Refusal>
     ensures { Applied store.old call rows.old
         list.old result store.new rows.new list.new }
 {
     match call {
-        Call::Start(asked) => changed(changes::start(store, asked)),
-        Call::Set(second, tag, reading) => changed(changes::set(store, second, tag, reading)),
-        Call::Clear(second, tag) => changed(changes::clear(store, second, tag)),
-        Call::Update(second, tag, reading) => changed(changes::update(store, second, tag, reading)),
-        Call::Advance(second) => changed(changes::advance(store, second)),
-        Call::LookBack(second) => shown(timeslice::look_back(store, second, rows, list)),
+        Call::Start(asked) => changes::start(store, asked).map(Answer::Done),
+        Call::Set(second, tag, reading) => {
+            changes::set(store, second, tag, reading).map(Answer::Done)
+        }
+        Call::Clear(second, tag) => changes::clear(store, second, tag).map(Answer::Done),
+        Call::Update(second, tag, reading) => {
+            changes::update(store, second, tag, reading).map(Answer::Done)
+        }
+        Call::Advance(second) => changes::advance(store, second).map(Answer::Done),
+        Call::LookBack(second) => {
+            timeslice::look_back(store, second, rows, list).map(Answer::Shown)
+        }
     }
 }
