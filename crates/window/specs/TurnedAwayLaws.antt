@@ -1,11 +1,11 @@
 -- The window's own tests, in order, for a store that was opened: each way out of the code is ruled.
-use Rattle.std.specs.Prelude.{◌≡◌, refl, Bool, true, false, ◌||◌, ℕ, ◌*◌, ◌≤◌, ◌<◌, eqb}
+use Rattle.std.specs.Prelude.{◌≡◌, refl, Bool, true, false, ◌||◌, ℕ, ◌*◌, ◌≤◌, ◌<◌, eqb, Ok, Err}
 use Rattle.std.proofs.Common.{sym, ◌∙◌, arith, eq-eqb, ne_eqb, lt-ltb, le-ltb, le-leb}
 use Rattle.std.proofs.lemmas.Bool.{lt-leb}
 use Rattle.base.specs.Branch.{is?}
 use Rattle.layout.specs.declared.head.Head.{Head}
 use Rattle.layout.specs.Sizes.{OPEN, row_len}
-use Rattle.layout.specs.RefusalNumbers.{TIME_OPEN, REVERSED, LATE, SHORT_BUFFER}
+use Rattle.layout.specs.declared.refusal.Refusal.TheVariants as refusal
 use Rattle.calls.specs.Refusals.{is_open}
 use Rattle.queries.specs.Own.{turned, free}
 use Rattle.window.specs.Windowed.{WindowRefusal}
@@ -21,22 +21,22 @@ open_last {first} last d f g = is? last OPEN
 
 -- ---- the tests
 module _ {h : Head} {first last rows : ℕ} {b : Bool} (test : b ≡ (is_open first || is_open last)) where
-  pub one_open : b ≡ true → WindowRefusal h first last rows TIME_OPEN
-  one_open e = record { own = turned {n = TIME_OPEN} (λ u. rw (sym test ∙ e)) refl }
+  pub one_open : b ≡ true → WindowRefusal h first last rows (Err refusal.TimeOpen)
+  one_open e = record { own = turned (λ u. rw (sym test ∙ e)) refl }
 
   module _ (a : b ≡ false) where
-    pub last_before : last < first → WindowRefusal h first last rows REVERSED
-    last_before e = record { own = turned {n = REVERSED} (λ u. rw (sym test ∙ a, lt-ltb last first e)) refl }
+    pub last_before : last < first → WindowRefusal h first last rows (Err refusal.Reversed)
+    last_before e = record { own = turned (λ u. rw (sym test ∙ a, lt-ltb last first e)) refl }
 
     module _ (c : first ≤ last) where
-      pub last_late : h.cursor.clock < last → WindowRefusal h first last rows LATE
-      last_late e = record { own = turned {n = LATE} (λ u. rw (sym test ∙ a, le-ltb last first c, lt-ltb _ last e)) refl }
+      pub last_late : h.cursor.clock < last → WindowRefusal h first last rows (Err refusal.Late)
+      last_late e = record { own = turned (λ u. rw (sym test ∙ a, le-ltb last first c, lt-ltb _ last e)) refl }
 
       module _ (d : last ≤ h.cursor.clock) where
-        pub rows_short : rows < row_len * h.settings.tags → WindowRefusal h first last rows SHORT_BUFFER
-        rows_short e = record { own = turned {n = SHORT_BUFFER} (λ u. rw (sym test ∙ a, le-ltb last first c, le-ltb _ last d, lt-ltb rows _ e)) refl }
+        pub rows_short : rows < row_len * h.settings.tags → WindowRefusal h first last rows (Err refusal.ShortBuffer)
+        rows_short e = record { own = turned (λ u. rw (sym test ∙ a, le-ltb last first c, le-ltb _ last d, lt-ltb rows _ e)) refl }
 
-        pub none_applies : row_len * h.settings.tags ≤ rows → WindowRefusal h first last rows 0
+        pub none_applies : row_len * h.settings.tags ≤ rows → WindowRefusal h first last rows (Ok tt)
         none_applies e = record {
           own = free (record {
             room = e;

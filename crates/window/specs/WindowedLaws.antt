@@ -1,25 +1,27 @@
 -- The whole window's answers: the refusals in their order, and what the records that are read come to.
-use Rattle.std.specs.Prelude.{◌≡◌, ◌≢◌, Bool, true, false, cond, ◌||◌, ℕ, ◌≤◌, eqb, length, get_or}
-use Rattle.std.proofs.Common.{ap, ◌∙◌, arith}
+use Rattle.std.specs.Prelude.{◌≡◌, Bool, true, false, cond, ◌||◌, ℕ, ◌≤◌, eqb, length, get_or, Result, Ok, Err}
+use Rattle.std.proofs.Common.{ap, subst, ◌∙◌, arith}
 use mathlib.Core.List.{List, [], ◌∷◌, map}
 use Rattle.base.specs.Branch.{or-false}
 use Rattle.base.specs.ListLaws.{joined_same}
 use Rattle.layout.specs.declared.settings.Settings.{Settings}
 use Rattle.layout.specs.declared.head.Head.{Head}
-use Rattle.layout.specs.RefusalNumbers.{UNSOUND}
+use Rattle.layout.specs.declared.refusal.Refusal.{Refusal}
+use Rattle.layout.specs.declared.refusal.Refusal.TheVariants as refusal
+use Rattle.layout.specs.RefusalNumbers.{UNSOUND, number}
 use Rattle.layout.specs.Head.{head_of}
-use Rattle.calls.specs.Calls.{Numbers, Refused as RefusedBy}
+use Rattle.calls.specs.Calls.{Numbers, Refused}
 use Rattle.calls.specs.Walk.{Reader}
 use Rattle.calls.specs.Refusals.{Test, refusal}
 use Rattle.calls.specs.LookBack.{reader, row_words, written, zeros}
 use Rattle.calls.specs.Range.{PlacedRecord, crossing}
 use Rattle.calls.specs.Window.{latest, of_tag, shown_row, window_rows, window_own, window_tests, window}
-use Rattle.queries.specs.Readable.{Readable, Opens}
-use Rattle.queries.specs.OpenLaws.{shut_by, own_free, own_refused, own_passed}
+use Rattle.queries.specs.declared.opened.Opened.{Opened}
+use Rattle.queries.specs.Readable.{Readable}
+use Rattle.queries.specs.Opens.{Opens}
+use Rattle.queries.specs.OpenLaws.{shut_by, same_words, own_free, own_refused, own_passed}
 use Rattle.queries.specs.RowLaws.{words_length, sets_written}
-use Rattle.window.specs.declared.WindowAnswer.{WindowAnswer}
-use Rattle.window.specs.declared.WindowAnswer.TheVariants.{Rows, Refused}
-use Rattle.window.specs.Windowed.{Windowed, rows_of, reads_unknown, Answers, answered, refused, WindowRefusal}
+use Rattle.window.specs.Windowed.{Windowed, rows_of, reads_unknown, Answers, answered, unknown, WindowRefusal}
 use Rattle.window.specs.Noted.{Noted, Notes, AllNamed, row_at, best_rows, Rowed, LongRows}
 use Rattle.window.specs.LatestLaws.{tag_row}
 use Rattle.window.specs.NotedLaws.{noted_at, noted_named}
@@ -40,7 +42,7 @@ rows_are {s} {R} {l} {best = best} n tags h = joined_same (λ tag. row_at s R (g
 module _ {ws : List ℕ} {h : Head} (ready : Readable ws h) {first last most : ℕ} {x : Bool} {best : List ℕ}
     (found : Notes h.settings (reader ws) (crossing first last ws) most x best) (rows : List ℕ) where
   pub rows_answered : x ≡ true → LongRows h.settings rows → {n : ℕ} {rows' : List ℕ} → Rowed h.settings (reader ws) best h.settings.tags rows n rows'
-      → Answers ws first last rows (Rows n) rows'
+      → Answers ws first last rows (Ok n) rows'
   rows_answered e long {n} {rows'} rowed =
       let d : h.settings.tags ≡ (head_of ws).settings.tags = rw ready.is in
       let known = notes_noted found e in
@@ -50,10 +52,10 @@ module _ {ws : List ℕ} {h : Head} (ready : Readable ws h) {first last most : �
       let room : length (row_words (rows_of ws first last)) ≤ length rows = omega (arith, words_length (rows_of ws first last), rowed.most, long.long) in
       answered (rw d at known.known) count ((rw are at rowed.words) ∙ sets_written (row_words (rows_of ws first last)) rows room)
 
-  pub rows_refused : x ≡ false → {rows' : List ℕ} → rows' ≡ zeros rows → Answers ws first last rows (Refused UNSOUND) rows'
+  pub rows_refused : x ≡ false → {rows' : List ℕ} → rows' ≡ zeros rows → Answers ws first last rows (Err refusal.Unsound) rows'
   rows_refused e z =
       let d : h.settings.tags ≡ (head_of ws).settings.tags = rw ready.is in
-      refused (rw d at (notes_unknown found e)) z
+      unknown (rw d at (notes_unknown found e)) z
 
 -- ---- the whole call, by its first refusal
 module _ (ws : List ℕ) (first last : ℕ) (rows : List ℕ) where
@@ -64,37 +66,41 @@ module _ (ws : List ℕ) (first last : ℕ) (rows : List ℕ) where
   abbrev own : List Test
   own = window_own (head_of ws) first last (length rows) (reads_unknown ws first last)
 
-  turned_is : (n : ℕ) → first_of ≡ n → (eqb n 0 || eqb n UNSOUND) ≡ false → Windowed ws first last rows (Refused n) rows
+  turned_is : {e : Refusal} → first_of ≡ number e → (eqb (number e) 0 || eqb (number e) UNSOUND) ≡ false → Windowed ws first last rows (Err e) rows
   unfolding window
-  turned_is n q f =
-      let g = or-false (eqb n 0) (eqb n UNSOUND) f in
-      let e : window ws first last rows ≡ record { answer = RefusedBy n; lent = rows ∷ [] } = rw (q, g.0, g.1) in
-      record { answer = rw e; words = rw e }
+  turned_is {e} q f =
+      let g = or-false (eqb (number e) 0) (eqb (number e) UNSOUND) f in
+      let i : window ws first last rows ≡ record { answer = Refused (number e); lent = rows ∷ [] } = rw (q, g.0, g.1) in
+      record { answer = rw i; words = rw i }
 
-  answer_is : {r : WindowAnswer} {rows' : List ℕ} → first_of ≡ cond (reads_unknown ws first last) UNSOUND 0 → Answers ws first last rows r rows'
+  answer_is : {r : Result ℕ Refusal} {rows' : List ℕ} → first_of ≡ cond (reads_unknown ws first last) UNSOUND 0 → Answers ws first last rows r rows'
       → Windowed ws first last rows r rows'
   unfolding window
   answer_is q (answered u n w) =
       let e : window ws first last rows
       ≡ record { answer = Numbers (length (rows_of ws first last) ∷ []); lent = written (row_words (rows_of ws first last)) rows ∷ [] } = rw (q, u) in
       record { answer = rw (e, n); words = rw (e, w) }
-  answer_is q (refused u w) =
-      let e : window ws first last rows ≡ record { answer = RefusedBy UNSOUND; lent = zeros rows ∷ [] } = rw (q, u) in
+  answer_is q (unknown u w) =
+      let e : window ws first last rows ≡ record { answer = Refused UNSOUND; lent = zeros rows ∷ [] } = rw (q, u) in
       record { answer = rw e; words = rw (e, w) }
 
   -- ---- the store is refused,
-  pub store_refused : {n : ℕ} → Opens ws n → n ≢ 0 → Windowed ws first last rows (Refused n) rows
-  store_refused {n} o d = let z = shut_by o d in turned_is n (z.0 own) z.1
+  pub store_refused : {e : Refusal} → Opens ws (Err e) → Windowed ws first last rows (Err e) rows
+  store_refused o = let z = shut_by o in turned_is (z.0 own) z.1
 
-  -- or one of its own tests applies,
-  pub window_refused : {n m : ℕ} {h : Head} → Opens ws n → n ≡ 0 → h ≡ head_of ws → WindowRefusal h first last (length rows) m → m ≢ 0
-      → Windowed ws first last rows (Refused m) rows
-  window_refused {m = m} o z e w d =
-      let p = own_refused (λ x u. window_own x first last (length rows) u) o z e (reads_unknown ws first last) w.own d in
-      turned_is m p.0 p.1
+  module _ {o : Opened} (opens : Opens ws (Ok o)) where
+    -- or one of its own tests applies,
+    pub window_refused : {e : Refusal} → WindowRefusal o.head first last (length rows) (Err e) → Windowed ws first last rows (Err e) rows
+    window_refused w =
+        let p = own_refused (λ (x : Head) (u : Bool). window_own x first last (length rows) u) opens (reads_unknown ws first last) w.own in
+        turned_is p.0 p.1
 
-  -- or none does, and the answer is the records'.
-  pub window_answers : {n m : ℕ} {h : Head} {r : WindowAnswer} {rows' : List ℕ} → Opens ws n → n ≡ 0 → h ≡ head_of ws
-      → WindowRefusal h first last (length rows) m → m ≡ 0 → Answers ws first last rows r rows' → Windowed ws first last rows r rows'
-  window_answers o z e w k a =
-      answer_is (own_passed (λ x u. window_own x first last (length rows) u) o z e (reads_unknown ws first last) (own_free w.own k)) a
+    -- or none does, and the answer is the records'.
+    pub window_answers : {r : Result ℕ Refusal} {rows' : List ℕ} → WindowRefusal o.head first last (length rows) (Ok tt)
+        → Answers o.store.now first last rows r rows' → Windowed ws first last rows r rows'
+    window_answers {r} {rows'} w a =
+        answer_is (own_passed (λ (x : Head) (u : Bool). window_own x first last (length rows) u) opens (reads_unknown ws first last) (own_free w.own))
+        (subst (λ (us : List ℕ). Answers us first last rows r rows') (same_words opens) a)
+
+    pub rows_long : WindowRefusal o.head first last (length rows) (Ok tt) → LongRows o.head.settings rows
+    rows_long w = record { long = (own_free w.own).room }

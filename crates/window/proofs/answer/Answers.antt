@@ -7,18 +7,18 @@ use Rattle.window.proofs.answer.Goals as goal
 
 pub note_blocks-requires : goal.note_blocks-requires
 note_blocks-requires c =
-    record { readable = c.requires.readable; best_value = refl }
+    record { readable = c.args.found.now.readable; best_value = refl }
 
 pub returns-then-not-note_blocks : goal.returns-then-not-note_blocks
 returns-then-not-note_blocks c =
-    rows_refused c.requires.readable c.note_blocks.ensures _ (c.if-not-note_blocks.true)
+    rows_refused c.args.found.now.readable c.note_blocks.ensures _ (c.if-not-note_blocks.true)
     c.zero_all.ensures
 
 pub put_rows-requires : goal.put_rows-requires
 put_rows-requires c =
-    record { blocks = blocks-of c.requires.readable; all_named = all_named (notes_noted c.note_blocks.ensures (c.if-not-note_blocks.false)); long_rows = c.requires.long_rows }
+    record { blocks = blocks-of c.args.found.now.readable; all_named = all_named (notes_noted c.note_blocks.ensures (c.if-not-note_blocks.false)); long_rows = c.requires }
 
 pub returns : goal.returns
 returns c =
-    rows_answered c.requires.readable c.note_blocks.ensures _ (c.if-not-note_blocks.false) c.requires.long_rows
+    rows_answered c.args.found.now.readable c.note_blocks.ensures _ (c.if-not-note_blocks.false) c.requires
     c.put_rows.ensures

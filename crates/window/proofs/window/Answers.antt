@@ -1,26 +1,20 @@
 -- `window` meets its contract: refusals 2, 3 and 4 are the store's, 5 to 11 its own tests', 12 the records'.
-use Rattle.queries.specs.OpenLaws.{has_head, ready_by, own_free}
-use Rattle.window.specs.WindowedLaws.{store_refused, window_refused, window_answers}
+use Rattle.std.proofs.lemmas.Result.{err_from_is_err_and}
+use Rattle.window.specs.WindowedLaws.{store_refused, window_refused, window_answers, rows_long}
 use Rattle.window.proofs.window.Goals as goal
 
-pub returns-then-n-ne0 : goal.returns-then-n-ne0
-returns-then-n-ne0 c = store_refused _ _ _ _ c.open-n.ensures c.if-n-ne0.true
+pub returns-in_err-found : goal.returns-in_err-found
+returns-in_err-found c =
+    let p = err_from_is_err_and c.from_residual.result c.from_residual.ensures.1 in
+    rw (p.1, p.2) (store_refused _ _ _ _ c.in_err-found.ensures)
 
-pub head_of-h-requires : goal.head_of-h-requires
-head_of-h-requires c = has_head c.open-n.ensures c.if-n-ne0.false
-
-pub turned_away-m-requires : goal.turned_away-m-requires
-turned_away-m-requires c = (ready_by c.open-n.ensures c.if-n-ne0.false c.head_of-h.ensures).sound.within
-
-pub returns-then-m-ne0 : goal.returns-then-m-ne0
-returns-then-m-ne0 c =
-    window_refused _ _ _ _ c.open-n.ensures c.if-n-ne0.false c.head_of-h.ensures c.turned_away-m.ensures c.if-m-ne0.true
+pub returns-in_err-test : goal.returns-in_err-test
+returns-in_err-test c =
+    let p = err_from_is_err_and c.from_residual-in_err-test.result c.from_residual-in_err-test.ensures.1 in
+    rw (p.1, p.2) (window_refused _ _ _ _ c.in_ok-found.ensures c.in_err-test.ensures)
 
 pub answer-requires : goal.answer-requires
-answer-requires c =
-    record { readable = ready_by c.open-n.ensures c.if-n-ne0.false c.head_of-h.ensures; long_rows = record { long = (own_free c.turned_away-m.ensures.own c.if-m-ne0.false).room } }
+answer-requires c = rows_long _ _ _ _ c.in_ok-found.ensures c.in_ok-test.ensures
 
 pub returns : goal.returns
-returns c =
-    window_answers _ _ _ _ c.open-n.ensures c.if-n-ne0.false c.head_of-h.ensures
-    c.turned_away-m.ensures c.if-m-ne0.false c.answer.ensures
+returns c = window_answers _ _ _ _ c.in_ok-found.ensures c.in_ok-test.ensures c.answer.ensures
