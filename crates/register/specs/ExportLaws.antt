@@ -1,9 +1,12 @@
 -- From what the calls in code answer to what a caller by numbers is told.
-use Rattle.std.specs.Prelude.{◌≡◌, refl, Bool, true, false, List, [], ◌∷◌, ℕ, ◌<◌, eqb, ltb}
+use Rattle.std.specs.Prelude.{◌≡◌, refl, Bool, true, false, List, [], ◌∷◌, ℕ, ◌<◌, eqb, ltb, Result, Ok, Err}
 use Rattle.std.proofs.Common.{sym, ap, ap₂, ◌∙◌, arith, ne_eqb, ltb-true}
 use Rattle.std.proofs.lemmas.List.Edits.{sets}
 use Rattle.base.specs.Branch.{and-true}
 use Rattle.layout.specs.declared.settings.Settings.{Settings}
+use Rattle.layout.specs.declared.head.Head.{Head}
+use Rattle.layout.specs.declared.refusal.Refusal.{Refusal}
+use Rattle.layout.specs.RefusalNumbers.{number}
 use Rattle.layout.specs.Settings.{in_limits, Within}
 use Rattle.layout.specs.SettingsLaws.{limits_within, StoreLong}
 use Rattle.calls.specs.Calls.{LookBack, Window, Call, Start, Set, Clear, Update, Advance, Ask, Answer, Done, Shown, Numbers, Refused, Reply, accepted}
@@ -13,19 +16,14 @@ use Rattle.calls.specs.Step.{step, tests_of}
 use Rattle.calls.specs.Claims.{First, here, later}
 use Rattle.theory.specs.TestLaws.{numbered}
 use Rattle.theory.specs.AnyCall.{every_call}
-use Rattle.changes.specs.declared.Change.{Change}
 use Rattle.changes.specs.Replied.{Replied, answer_of}
 use Rattle.timeslice.specs.declared.Slice.{Slice}
-use Rattle.timeslice.specs.declared.SliceAnswer.{SliceAnswer}
-use Rattle.timeslice.specs.declared.SliceAnswer.TheVariants as slice
-use Rattle.timeslice.specs.Answer.{Says, view, number, LookedBack}
-use Rattle.window.specs.declared.WindowAnswer.{WindowAnswer}
-use Rattle.window.specs.declared.WindowAnswer.TheVariants as window
+use Rattle.timeslice.specs.Answer.{Says, view, turned, LookedBack}
 use Rattle.window.specs.Windowed.{Windowed, answer_of as window_answer}
 use Rattle.register.specs.Exports.{number_of, six_words, six_after, numbers_after, Exported, ExportedLookBack, ExportedQuery, words_for}
 
 -- ---- a start, change or clock move
-pub exported : {r : Reply} {c : Change} {n : ℕ} {words : List ℕ} → Replied r c words → n ≡ number_of (answer_of c) → Exported r n words
+pub exported : {r : Reply} {c : Result Head Refusal} {n : ℕ} {words : List ℕ} → Replied r c words → n ≡ number_of (answer_of c) → Exported r n words
 exported e f = record { number = f ∙ ap number_of e.answer; store = e.store }
 
 -- ---- A CALLER IS TOLD 0 EXACTLY IF THE CALL WAS ACCEPTED, on any words: no refusal has the number 0
@@ -52,7 +50,7 @@ pub told_zero : (ws : List ℕ) (c : Call) → eqb (number_of (step ws c).answer
 told_zero ws c = zero_accepted (step ws c).answer (λ n e. first_above (tests_numbered ws c) ((every_call ws c).refused_first n e))
 
 -- ---- a look-back: refused, or answered with six words
-module _ {ws rows list rows' list' : List ℕ} {t : ℕ} {l : SliceAnswer} (b : LookedBack ws t rows list l rows' list') (six : List ℕ) where
+module _ {ws rows list rows' list' : List ℕ} {t : ℕ} {l : Result Slice Refusal} (b : LookedBack ws t rows list l rows' list') (six : List ℕ) where
   -- what is told of an answer, and the six words after it
   abbrev told_so : Answer → ℕ → List ℕ → Type 0
   told_so a n six' = (n ≡ number_of a) × (six' ≡ six_after a six)
@@ -60,26 +58,26 @@ module _ {ws rows list rows' list' : List ℕ} {t : ℕ} {l : SliceAnswer} (b : 
   told_back : {n : ℕ} {six' : List ℕ} → told_so (look_back ws t rows list).answer n six' → ExportedLookBack ws t rows list six n rows' list' six'
   told_back p = record { number = p.0; buffers = ap₂ (λ (x y : List ℕ). x ∷ y ∷ []) b.row_words_lem b.list_words; six-words = p.1 }
 
-  refused_so : {a : Answer} {n : ℕ} → Says a (slice.Refused n) → told_so a n six
-  refused_so number = (refl, refl)
+  refused_so : {a : Answer} {e : Refusal} → Says a (Err e) → told_so a (number e) six
+  refused_so (turned q) = (q, refl)
 
-  answered_so : {a : Answer} {s : Slice} → Says a (slice.Answered s) → told_so a 0 (sets six 0 (six_words s))
+  answered_so : {a : Answer} {s : Slice} → Says a (Ok s) → told_so a 0 (sets six 0 (six_words s))
   answered_so (view e) = (refl, ap (λ (x : Slice). sets six 0 (six_words x)) e)
 
-  pub refused_back : {n : ℕ} → l ≡ slice.Refused n → ExportedLookBack ws t rows list six n rows' list' six
+  pub refused_back : {e : Refusal} → l ≡ Err e → ExportedLookBack ws t rows list six (number e) rows' list' six
   refused_back e = told_back (refused_so (rw e at b.answer))
 
-  pub answered_back : {s : Slice} {six' : List ℕ} → l ≡ slice.Answered s → six' ≡ sets six 0 (six_words s) → ExportedLookBack ws t rows list six 0 rows' list' six'
+  pub answered_back : {s : Slice} {six' : List ℕ} → l ≡ Ok s → six' ≡ sets six 0 (six_words s) → ExportedLookBack ws t rows list six 0 rows' list' six'
   answered_back e f = let p = answered_so (rw e at b.answer) in told_back (p.0, f ∙ p.1)
 
 -- ---- a window: refused, or answered with one number
-module _ {ws rows rows' : List ℕ} {first last : ℕ} {w : WindowAnswer} (b : Windowed ws first last rows w rows') (answer : List ℕ) where
-  pub refused_window : {n : ℕ} → w ≡ window.Refused n → ExportedQuery ws (Window first last rows) answer n (rows' ∷ []) answer
-  refused_window {n} e =
-      let is : Refused n ≡ (step ws (Ask (Window first last rows))).answer = ap window_answer (sym e) ∙ b.answer in
+module _ {ws rows rows' : List ℕ} {first last : ℕ} {w : Result ℕ Refusal} (b : Windowed ws first last rows w rows') (answer : List ℕ) where
+  pub refused_window : {e : Refusal} → w ≡ Err e → ExportedQuery ws (Window first last rows) answer (number e) (rows' ∷ []) answer
+  refused_window {e = x} e =
+      let is : Refused (number x) ≡ (step ws (Ask (Window first last rows))).answer = ap window_answer (sym e) ∙ b.answer in
       record { number = ap number_of is; buffers = b.words; answered = ap (λ (a : Answer). numbers_after a answer) is }
 
-  pub answered_window : {n : ℕ} {answer' : List ℕ} → w ≡ window.Rows n → answer' ≡ sets answer 0 (n ∷ [])
+  pub answered_window : {n : ℕ} {answer' : List ℕ} → w ≡ Ok n → answer' ≡ sets answer 0 (n ∷ [])
       → ExportedQuery ws (Window first last rows) answer 0 (rows' ∷ []) answer'
   answered_window {n} e f =
       let is : Numbers (n ∷ []) ≡ (step ws (Ask (Window first last rows))).answer = ap window_answer (sym e) ∙ b.answer in

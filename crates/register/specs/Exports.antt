@@ -1,8 +1,8 @@
 -- WHAT A CALLER IN C OR RUST IS TOLD: 0 for an accepted call, else the refusal's number, and all lent words as the definition leaves them.
-use Rattle.std.specs.Prelude.{◌≡◌, cond, List, [], ◌∷◌, ℕ}
+use Rattle.std.specs.Prelude.{◌≡◌, cond, List, [], ◌∷◌, ℕ, get_or}
 use Rattle.std.proofs.lemmas.List.Edits.{sets}
 use Rattle.layout.specs.declared.settings.Settings.{Settings}
-use Rattle.layout.specs.Sizes.{layout_len}
+use Rattle.layout.specs.Sizes.{OPEN, layout_len}
 use Rattle.layout.specs.Settings.{in_limits}
 use Rattle.calls.specs.Calls.{Query, Ask, LookBack, Answer, Done, Shown, Numbers, Refused, Reply}
 use Rattle.calls.specs.Step.{step}
@@ -24,7 +24,8 @@ pub record Exported (r : Reply) (n : ℕ) (words : List ℕ) : Type 0 where
 
 -- rows, pages read, blocks listed, and the page passed on each of the three levels
 abbrev pub six_words : Slice → List ℕ
-six_words s = s.counts.rows ∷ s.counts.pages ∷ s.counts.blocks ∷ s.page0 ∷ s.page1 ∷ s.page2 ∷ []
+six_words s =
+    s.counts.rows ∷ s.counts.pages ∷ s.counts.blocks ∷ get_or s.pages 0 OPEN ∷ get_or s.pages 1 OPEN ∷ get_or s.pages 2 OPEN ∷ []
 
 -- the six words are written by an answered look-back; a refusal leaves them
 abbrev pub six_after : Answer → List ℕ → List ℕ

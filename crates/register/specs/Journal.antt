@@ -1,14 +1,12 @@
 -- A JOURNAL OF CHANGES and what a replay of it leaves: the run of its history (calls.specs.History). Six words an entry: its kind and five numbers,
 -- of which a kind uses the first ones. An entry of no kind ends the journal (0 is none), and so does one that is cut short.
-use Rattle.std.specs.Prelude.{◌≡◌, cond, List, [], ◌∷◌, ℕ, ◌+◌, eqb, length, get_or}
+use Rattle.std.specs.Prelude.{◌≡◌, Bool, cond, List, [], ◌∷◌, ℕ, ◌+◌, eqb, length, get_or, Option, Some, None}
 use Rattle.base.specs.Sums.{is}
 use Rattle.layout.specs.Settings.{settings_of}
 use Rattle.calls.specs.Calls.{Call, Start, Set, Clear, Update, Advance, accepted}
 use Rattle.calls.specs.Step.{step}
 use Rattle.calls.specs.History.{Heard, words_after, trace}
 use Rattle.register.specs.declared.journal.Tally.{Tally}
-use Rattle.register.specs.declared.journal.Played.{Played}
-use Rattle.register.specs.declared.journal.Played.TheVariants.{Counts, Ends}
 
 -- an entry: a change, or none that is known
 pub data JournalEntry : Type 0 where
@@ -49,23 +47,19 @@ pub record Replayed (ws journal : List ℕ) (r : Tally) (ws' : List ℕ) : Type 
   pub entries : r.entries ≡ length (journal_of journal)
   pub accepted : r.accepted ≡ accepted_in (trace ws (journal_of journal))
 
--- ---- the parts: one entry
-abbrev pub counts_as : ℕ → Played
-counts_as number = Counts (is (eqb number 0))
-
--- the entry that begins at a place
+-- ---- the parts: the entry that begins at a place
 abbrev pub entry_at : List ℕ → ℕ → JournalEntry
 entry_at j at = entry_of (get_or j at 0) (get_or j (at + 1) 0) (get_or j (at + 2) 0) (get_or j (at + 3) 0) (get_or j (at + 4) 0)
 
--- what an entry does, and the words after it
-abbrev pub playing : List ℕ → JournalEntry → Played
-playing ws (says c) = Counts (is (accepted (step ws c).answer))
-playing ws nothing = Ends
+-- whether an entry is accepted, none where it ends the journal; and the words after it
+abbrev pub playing : List ℕ → JournalEntry → Option Bool
+playing ws (says c) = Some (accepted (step ws c).answer)
+playing ws nothing = None
 
 abbrev pub after_entry : List ℕ → JournalEntry → List ℕ
 after_entry ws (says c) = (step ws c).store
 after_entry ws nothing = ws
 
-pub record Plays (ws : List ℕ) (e : JournalEntry) (r : Played) (ws' : List ℕ) : Type 0 where
+pub record Plays (ws : List ℕ) (e : JournalEntry) (r : Option Bool) (ws' : List ℕ) : Type 0 where
   pub counted : r ≡ playing ws e
   pub store : ws' ≡ after_entry ws e

@@ -1,7 +1,7 @@
 // A JOURNAL OF CHANGES, from which a store is rebuilt. Six words an entry: its kind and five numbers, of which a kind uses the first ones.
 // An entry of no kind ends the journal (0 is none, so that a zeroed tail is no entry), and so does one that is cut short.
-ghost use Rattle.std.specs.Prelude.{◌≡◌, ◌+◌, ◌≤◌, length};
-ghost use Rattle.register.specs.Journal.{entry_of, entry_at, counts_as, Plays, Replayed};
+ghost use Rattle.std.specs.Prelude.{◌≡◌, length};
+ghost use Rattle.register.specs.Journal.{entry_of, entry_at, Plays, Replayed};
 ghost use Rattle.register.specs.Rebuilt.{Rebuilt};
 
 const ENTRY: usize = 6;
@@ -28,57 +28,27 @@ pub struct Tally {
     pub accepted: usize,
 }
 
-// What an entry did: it counts 1 if it was accepted and 0 if it was refused, or it ends the journal.
-#[derive(Clone, Copy)]
-enum Played {
-    Counts(usize),
-    Ends,
-}
-
-// By the number that the call answered: 0 says that it was accepted.
-fn counts(number: u32) -> Played
-    ensures { result ≡ counts_as number }
-{
-    if number == 0 {
-        return Played::Counts(1);
-    }
-    Played::Counts(0)
-}
-
-// One entry, by the calls that are exported: a change that had another caller beside its call by numbers would no longer be compiled into it. (`apply`
-// is not in the archive.)
-fn play(store: &mut [u32], kind: u32, a: u32, b: u32, c: u32, d: u32) -> Played
+// One entry, by the calls that are exported: whether it was accepted, which the number 0 says; none for an entry of no kind, which ends the journal.
+// (A change that had another caller beside its call by numbers would no longer be compiled into it. `apply` is not in the archive.)
+fn play(store: &mut [u32], kind: u32, a: u32, b: u32, c: u32, d: u32) -> Option<bool>
     ensures { Plays store.old (entry_of kind a b c d) result store.new }
 {
-    if kind == START {
-        return counts(crate::register_start(store, a, b, c, d));
+    match kind {
+        START => Some(crate::register_start(store, a, b, c, d) == 0),
+        SET => Some(crate::register_set(store, a, b, c) == 0),
+        CLEAR => Some(crate::register_clear(store, a, b) == 0),
+        UPDATE => Some(crate::register_update(store, a, b, c) == 0),
+        ADVANCE => Some(crate::register_advance(store, a) == 0),
+        _ => None,
     }
-    if kind == SET {
-        return counts(crate::register_set(store, a, b, c));
-    }
-    if kind == CLEAR {
-        return counts(crate::register_clear(store, a, b));
-    }
-    if kind == UPDATE {
-        return counts(crate::register_update(store, a, b, c));
-    }
-    if kind == ADVANCE {
-        return counts(crate::register_advance(store, a));
-    }
-    Played::Ends
 }
 
-// The entry whose six words begin at `at`.
-fn play_at(store: &mut [u32], journal: &[u32], at: usize) -> Played
-    requires { at + 6 ≤ length journal.now }
-    ensures { Plays store.old (entry_at journal.now at) result store.new }
+// The entry of these six words.
+fn play_words(store: &mut [u32], entry: &[u32]) -> Option<bool>
+    requires { length entry.now ≡ 6 }
+    ensures { Plays store.old (entry_at entry.now 0) result store.new }
 {
-    let kind = journal[at];
-    let a = journal[at + 1];
-    let b = journal[at + 2];
-    let c = journal[at + 3];
-    let d = journal[at + 4];
-    play(store, kind, a, b, c, d)
+    play(store, entry[0], entry[1], entry[2], entry[3], entry[4])
 }
 
 // All entries in order, refused ones too, each on the store as the one before left it.
@@ -86,16 +56,14 @@ pub fn replay(store: &mut [u32], journal: &[u32]) -> Tally
     ensures replayed { Replayed store.old journal.now result store.new }
     ensures rebuilt { Rebuilt store.old journal.now store.new }
 {
-    let mut at = 0;
     let mut entries = 0;
     let mut accepted = 0;
-    while ENTRY <= journal.len() - at {
-        let Played::Counts(one) = play_at(store, journal, at) else {
+    for entry in journal.chunks_exact(ENTRY) {
+        let Some(is_accepted) = play_words(store, entry) else {
             return Tally { entries, accepted };
         };
-        accepted += one;
         entries += 1;
-        at += ENTRY;
+        accepted += usize::from(is_accepted);
     }
     Tally { entries, accepted }
 }

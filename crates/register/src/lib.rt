@@ -1,4 +1,4 @@
-// THE REGISTER, the public face: any of document 01's six calls as one value (apply), a store rebuilt from a journal (replay), and by numbers the six
+// THE REGISTER, the public face: any of the six calls as one value (apply), a store rebuilt from a journal (replay), and by numbers the six
 // calls and the window, each proved equal to its definition (calls.specs.Step), the replay, and how many words a store takes. `register_c` exports
 // these last ones to C and Rust.
 #![tactic(auto)]
@@ -15,19 +15,19 @@ ghost use Rattle.register.specs.Exports.{number_of, six_words, Exported, Exporte
 ghost use Rattle.register.specs.Rebuilt.{Rebuilt};
 
 pub use applying::{Answer, Call, apply};
-use changes::Change;
 pub use journal::{Tally, replay};
+use layout::head::Head;
+use layout::refusal::Refusal;
 use layout::settings::Settings;
-use timeslice::{Slice, SliceAnswer};
-use window::WindowAnswer;
+use timeslice::Slice;
 
 // 0 for an accepted call, else the refusal's number.
-fn number(c: Change) -> u32
-    ensures { result ≡ number_of (answer_of c) }
+fn number(answer: Result<Head, Refusal>) -> u32
+    ensures { result ≡ number_of (answer_of answer) }
 {
-    match c {
-        Change::Done(_) => 0,
-        Change::Refused(n) => n,
+    match answer {
+        Ok(_) => 0,
+        Err(reason) => reason.number(),
     }
 }
 
@@ -35,36 +35,31 @@ pub fn register_start(store: &mut [u32], block: u32, useful: u32, blocks: u32, t
     ensures { Exported (step store.old (Start (settings_of block useful blocks tags))) result
         store.new }
 {
-    let change = changes::start(store, Settings::asked(block, useful, blocks, tags));
-    number(change)
+    number(changes::start(store, Settings::asked(block, useful, blocks, tags)))
 }
 
 pub fn register_set(store: &mut [u32], second: u32, tag: u32, reading: u32) -> u32
     ensures { Exported (step store.old (Set second tag reading)) result store.new }
 {
-    let change = changes::set(store, second, tag, reading);
-    number(change)
+    number(changes::set(store, second, tag, reading))
 }
 
 pub fn register_clear(store: &mut [u32], second: u32, tag: u32) -> u32
     ensures { Exported (step store.old (Clear second tag)) result store.new }
 {
-    let change = changes::clear(store, second, tag);
-    number(change)
+    number(changes::clear(store, second, tag))
 }
 
 pub fn register_update(store: &mut [u32], second: u32, tag: u32, reading: u32) -> u32
     ensures { Exported (step store.old (Update second tag reading)) result store.new }
 {
-    let change = changes::update(store, second, tag, reading);
-    number(change)
+    number(changes::update(store, second, tag, reading))
 }
 
 pub fn register_advance(store: &mut [u32], second: u32) -> u32
     ensures { Exported (step store.old (Advance second)) result store.new }
 {
-    let change = changes::advance(store, second);
-    number(change)
+    number(changes::advance(store, second))
 }
 
 // The six words of an answered look-back: rows, pages read, blocks listed, and the page passed on each of the three levels.
@@ -74,9 +69,10 @@ fn put_six(answer: &mut [u32; 6], slice: Slice)
     answer[0] = slice.counts.rows;
     answer[1] = slice.counts.pages;
     answer[2] = slice.counts.blocks;
-    answer[3] = slice.page0;
-    answer[4] = slice.page1;
-    answer[5] = slice.page2;
+    let [page0, page1, page2] = slice.pages;
+    answer[3] = page0;
+    answer[4] = page1;
+    answer[5] = page2;
 }
 
 pub fn register_look_back(
@@ -89,13 +85,12 @@ pub fn register_look_back(
     ensures { ExportedLookBack store.now second rows.old
         list.old answer.old result rows.new list.new answer.new }
 {
-    let looked = timeslice::look_back(store, second, rows, list);
-    match looked {
-        SliceAnswer::Refused(n) => n,
-        SliceAnswer::Answered(slice) => {
+    match timeslice::look_back(store, second, rows, list) {
+        Ok(slice) => {
             put_six(answer, slice);
             0
         }
+        Err(refusal) => refusal.number(),
     }
 }
 
@@ -109,13 +104,12 @@ pub fn register_window(
     ensures { ExportedQuery store.now (Window first last rows.old)
         answer.old result (rows.new ∷ []) answer.new }
 {
-    let crossed = window::window(store, first, last, rows);
-    match crossed {
-        WindowAnswer::Refused(n) => n,
-        WindowAnswer::Rows(given) => {
+    match window::window(store, first, last, rows) {
+        Ok(given) => {
             answer[0] = given;
             0
         }
+        Err(refusal) => refusal.number(),
     }
 }
 

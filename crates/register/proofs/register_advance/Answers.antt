@@ -3,4 +3,4 @@ use Rattle.register.specs.ExportLaws.{exported}
 use Rattle.register.proofs.register_advance.Goals as goal
 
 pub returns : goal.returns
-returns c = exported c.advance-change.ensures c.number.ensures
+returns c = exported c.advance.ensures c.number.ensures

@@ -3,4 +3,4 @@ use Rattle.register.specs.ExportLaws.{exported}
 use Rattle.register.proofs.register_clear.Goals as goal
 
 pub returns : goal.returns
-returns c = exported c.clear-change.ensures c.number.ensures
+returns c = exported c.clear.ensures c.number.ensures

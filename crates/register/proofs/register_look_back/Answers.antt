@@ -2,10 +2,10 @@
 use Rattle.register.specs.ExportLaws.{refused_back, answered_back}
 use Rattle.register.proofs.register_look_back.Goals as goal
 
-pub returns-in-Refused : goal.returns-in-Refused
-returns-in-Refused c = refused_back c.look_back-looked.ensures c.args.answer.now c.in-Refused.is
+pub returns-in-Err : goal.returns-in-Err
+returns-in-Err c = rw c.number.ensures (refused_back c.look_back.ensures c.args.answer.now c.in-Err.is)
 
-pub returns-in-Answered : goal.returns-in-Answered
-returns-in-Answered c =
-    answered_back c.look_back-looked.ensures c.args.answer.now c.in-Answered.is
+pub returns-in-Ok : goal.returns-in-Ok
+returns-in-Ok c =
+    answered_back c.look_back.ensures c.args.answer.now c.in-Ok.is
     c.put_six.ensures

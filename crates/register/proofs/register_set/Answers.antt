@@ -3,4 +3,4 @@ use Rattle.register.specs.ExportLaws.{exported}
 use Rattle.register.proofs.register_set.Goals as goal
 
 pub returns : goal.returns
-returns c = exported c.set-change.ensures c.number.ensures
+returns c = exported c.set.ensures c.number.ensures

@@ -3,4 +3,4 @@ use Rattle.register.specs.ExportLaws.{exported}
 use Rattle.register.proofs.register_start.Goals as goal
 
 pub returns : goal.returns
-returns c = exported (rw c.asked.ensures at c.start-change.ensures) c.number.ensures
+returns c = exported (rw c.asked.ensures at c.start.ensures) c.number.ensures

@@ -3,4 +3,4 @@ use Rattle.register.specs.ExportLaws.{exported}
 use Rattle.register.proofs.register_update.Goals as goal
 
 pub returns : goal.returns
-returns c = exported c.update-change.ensures c.number.ensures
+returns c = exported c.update.ensures c.number.ensures

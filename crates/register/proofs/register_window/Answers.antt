@@ -3,10 +3,10 @@ use mathlib.Core.Path.{refl}
 use Rattle.register.specs.ExportLaws.{refused_window, answered_window}
 use Rattle.register.proofs.register_window.Goals as goal
 
-pub returns-in-Refused : goal.returns-in-Refused
-returns-in-Refused c =
-    refused_window c.window-crossed.ensures c.args.answer.now c.in-Refused.is
+pub returns-in-Err : goal.returns-in-Err
+returns-in-Err c =
+    rw c.number.ensures (refused_window c.window.ensures c.args.answer.now c.in-Err.is)
 
-pub returns-in-Rows : goal.returns-in-Rows
-returns-in-Rows c =
-    answered_window c.window-crossed.ensures c.args.answer.now c.in-Rows.is refl
+pub returns-in-Ok : goal.returns-in-Ok
+returns-in-Ok c =
+    answered_window c.window.ensures c.args.answer.now c.in-Ok.is refl

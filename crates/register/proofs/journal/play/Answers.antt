@@ -1,22 +1,23 @@
 -- `play` meets its contract: each kind by its own call.
-use mathlib.Core.Path.{refl}
+use native.Mathlib.Omega.{arith}
 use Rattle.register.specs.JournalLaws.{entered, passed, of_kind, of_none}
 use Rattle.register.proofs.journal.play.Goals as goal
 
-pub returns-then-kind-eq-START : goal.returns-then-kind-eq-START
-returns-then-kind-eq-START c = entered (of_kind _ _ _ _ 1 c.if-kind-eq-START.true) c.register_start.ensures c.counts.ensures
+pub returns-in-1 : goal.returns-in-1
+returns-in-1 c = entered (of_kind _ _ _ _ 1 c.in-1.is) c.register_start.ensures
 
-pub returns-then-kind-eq-SET : goal.returns-then-kind-eq-SET
-returns-then-kind-eq-SET c = entered (of_kind _ _ _ _ 2 c.if-kind-eq-SET.true) c.register_set.ensures c.counts-then-kind-eq-SET.ensures
+pub returns-in-2 : goal.returns-in-2
+returns-in-2 c = entered (of_kind _ _ _ _ 2 c.in-2.is) c.register_set.ensures
 
-pub returns-then-kind-eq-CLEAR : goal.returns-then-kind-eq-CLEAR
-returns-then-kind-eq-CLEAR c = entered (of_kind _ _ _ _ 3 c.if-kind-eq-CLEAR.true) c.register_clear.ensures c.counts-then-kind-eq-CLEAR.ensures
+pub returns-in-3 : goal.returns-in-3
+returns-in-3 c = entered (of_kind _ _ _ _ 3 c.in-3.is) c.register_clear.ensures
 
-pub returns-then-kind-eq-UPDATE : goal.returns-then-kind-eq-UPDATE
-returns-then-kind-eq-UPDATE c = entered (of_kind _ _ _ _ 4 c.if-kind-eq-UPDATE.true) c.register_update.ensures c.counts-then-kind-eq-UPDATE.ensures
+pub returns-in-4 : goal.returns-in-4
+returns-in-4 c = entered (of_kind _ _ _ _ 4 c.in-4.is) c.register_update.ensures
 
-pub returns-then-kind-eq-ADVANCE : goal.returns-then-kind-eq-ADVANCE
-returns-then-kind-eq-ADVANCE c = entered (of_kind _ _ _ _ 5 c.if-kind-eq-ADVANCE.true) c.register_advance.ensures c.counts-then-kind-eq-ADVANCE.ensures
+pub returns-in-5 : goal.returns-in-5
+returns-in-5 c = entered (of_kind _ _ _ _ 5 c.in-5.is) c.register_advance.ensures
 
-pub returns : goal.returns
-returns c = passed (of_none _ _ _ _ c.if-kind-eq-START.false c.if-kind-eq-SET.false c.if-kind-eq-CLEAR.false c.if-kind-eq-UPDATE.false c.if-kind-eq-ADVANCE.false) refl
+pub returns-in_default : goal.returns-in_default
+returns-in_default c =
+    passed (of_none {kind = c.args.kind} _ _ _ _ (λ e. omega (arith, e)) (λ e. omega (arith, e)) (λ e. omega (arith, e)) (λ e. omega (arith, e)) (λ e. omega (arith, e)))

@@ -1,9 +1,0 @@
--- `counts` meets its contract: 0 is no refusal.
-use borrow.Author.Tests.{eq-eqb, ne_eqb}
-use Rattle.register.proofs.journal.counts.Goals as goal
-
-pub returns-then-number-eq0 : goal.returns-then-number-eq0
-returns-then-number-eq0 c = simp (eq-eqb _ _ c.if-number-eq0.true)
-
-pub returns : goal.returns
-returns c = simp (ne_eqb _ _ c.if-number-eq0.false)
