@@ -4,6 +4,7 @@ ghost use Rattle.layout.specs.OnWords.{Held};
 ghost use Rattle.array_build.specs.Kept.{Kept};
 
 use crate::closing;
+use crate::closing::Anew;
 use crate::taken::Record;
 use changes::Change;
 use decisions::Verdict;
@@ -51,7 +52,7 @@ fn clear_tag(store: &mut [u32], h: Head, second: u32, tag: u32) -> Head
     if n == h.cursor.opened {
         return h;
     }
-    closing::judge(store, h, n, second)
+    closing::judge::<Anew>(store, h, n, second)
 }
 
 // A tag is set with a reading.

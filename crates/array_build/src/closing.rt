@@ -1,5 +1,4 @@
 // Blocks are judged, and one that closes goes through the array.
-ghost use Rattle.std.specs.Prelude.{◌≤◌};
 ghost use Rattle.layout.specs.Address.{Numbered};
 ghost use Rattle.layout.specs.OnWords.{Held};
 ghost use Rattle.array_build.specs.Kept.{Kept};
@@ -32,17 +31,41 @@ fn put(store: &mut [u32], h: Head, second: u32, record: Record) -> Head
     records::put_record(store, h, second, record.tag, record.payload)
 }
 
-// Records that were taken out are placed in an acceptor that has room for all of them.
-fn put_all(store: &mut [u32], h: Head, second: u32, taken: Taken) -> Head
-    requires held { Held h.settings store.old }
-    requires count_bound { taken.count ≤ 32 }
+// Where the records go that were taken out of a block that closes.
+pub trait Places {
+    // A record goes there.
+    fn place(store: &mut [u32], h: Head, second: u32, record: Record) -> Head
+        requires { Held h.settings store.old }
+        ensures { Kept h result store.new };
+}
+
+// Straight into the acceptor, a new block that has room for all of them: so the records of the old acceptor go.
+struct Straight;
+
+impl Places for Straight {
+    fn place(store: &mut [u32], h: Head, second: u32, record: Record) -> Head {
+        put(store, h, second, record)
+    }
+}
+
+// Where any record goes: so the records of another block go.
+pub struct Anew;
+
+impl Places for Anew {
+    fn place(store: &mut [u32], h: Head, second: u32, record: Record) -> Head {
+        place(store, h, second, record)
+    }
+}
+
+// Records that were taken out are placed, in slot order.
+#[inline(never)]
+fn place_all<P: Places>(store: &mut [u32], h: Head, second: u32, taken: &Taken) -> Head
+    requires { Held h.settings store.old }
     ensures { Kept h result store.new }
 {
     let mut head = h;
-    let records = taken.records;
-    for i in 0..taken.count {
-        let record = records[i as usize];
-        head = put(store, head, second, record);
+    for record in taken.records() {
+        head = P::place(store, head, second, *record);
     }
     head
 }
@@ -68,8 +91,8 @@ fn unlink(store: &mut [u32], h: Head, x: u32, second: u32) -> Head
     blocks::unlink(store, h, x, second)
 }
 
-// The old acceptor x is judged: with fewer than q standing it closes, and its records are taken out and placed in the new block.
-fn judge_full(store: &mut [u32], h: Head, x: u32, second: u32) -> Head
+// Block x is judged: with fewer than q standing it closes, and its records are taken out and placed again.
+pub fn judge<P: Places>(store: &mut [u32], h: Head, x: u32, second: u32) -> Head
     requires held { Held h.settings store.old }
     requires numbered { Numbered h.settings x }
     ensures { Kept h result store.new }
@@ -81,10 +104,11 @@ fn judge_full(store: &mut [u32], h: Head, x: u32, second: u32) -> Head
     }
     let unlinked = unlink(store, h, x, second);
     let taken = taken::take_out(store, s, x, second, bits);
-    put_all(store, unlinked, second, taken)
+    place_all::<P>(store, unlinked, second, &taken)
 }
 
 // Block N + 1 opens, if one is left, then block N, if any, is judged.
+#[inline(never)]
 fn roll(store: &mut [u32], h: Head, second: u32) -> Head
     requires { Held h.settings store.old }
     ensures { Kept h result store.new }
@@ -97,49 +121,26 @@ fn roll(store: &mut [u32], h: Head, second: u32) -> Head
     if last == 0 {
         return opened;
     }
-    judge_full(store, opened, last, second)
+    judge::<Straight>(store, opened, last, second)
 }
 
-// A record is placed, after a block opened if the acceptor is full, or N is 0.
+// Room for a record: a block opens if the acceptor is full, or N is 0.
+fn make_room(store: &mut [u32], h: Head, second: u32) -> Head
+    requires { Held h.settings store.old }
+    ensures { Kept h result store.new }
+{
+    if h.cursor.opened == 0 || h.cursor.fill == h.settings.block {
+        return roll(store, h, second);
+    }
+    h
+}
+
+// A record is placed, where there is room or after room is made.
+#[inline]
 pub fn place(store: &mut [u32], h: Head, second: u32, record: Record) -> Head
     requires { Held h.settings store.old }
     ensures { Kept h result store.new }
 {
-    let full = h.cursor.fill == h.settings.block;
-    if full | (h.cursor.opened == 0) {
-        let rolled = roll(store, h, second);
-        return put(store, rolled, second, record);
-    }
-    put(store, h, second, record)
-}
-
-// Records that were taken out are placed, each where any record goes.
-fn place_all(store: &mut [u32], h: Head, second: u32, taken: Taken) -> Head
-    requires held { Held h.settings store.old }
-    requires count_bound { taken.count ≤ 32 }
-    ensures { Kept h result store.new }
-{
-    let mut head = h;
-    let records = taken.records;
-    for i in 0..taken.count {
-        let record = records[i as usize];
-        head = place(store, head, second, record);
-    }
-    head
-}
-
-// Block x, which is not the acceptor, is judged: with fewer than q standing it closes, and its records are taken out and placed again.
-pub fn judge(store: &mut [u32], h: Head, x: u32, second: u32) -> Head
-    requires held { Held h.settings store.old }
-    requires numbered { Numbered h.settings x }
-    ensures { Kept h result store.new }
-{
-    let s = h.settings;
-    let bits = address::standing(store, s, x);
-    if s.useful <= bits.count() {
-        return h;
-    }
-    let unlinked = unlink(store, h, x, second);
-    let taken = taken::take_out(store, s, x, second, bits);
-    place_all(store, unlinked, second, taken)
+    let with_room = make_room(store, h, second);
+    put(store, with_room, second, record)
 }

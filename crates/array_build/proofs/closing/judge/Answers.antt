@@ -3,7 +3,7 @@ use Rattle.array_build.specs.Kept.{still_held, kept_on}
 use Rattle.array_build.proofs.closing.judge.Goals as goal
 
 pub place_all-requires : goal.place_all-requires
-place_all-requires c = record { held = still_held c.unlink-unlinked.ensures c.take_out-taken.ensures.held; count_bound = c.take_out-taken.ensures.count_bound }
+place_all-requires g c = still_held c.unlink-unlinked.ensures c.take_out-taken.ensures
 
 pub returns : goal.returns
-returns c = kept_on c.unlink-unlinked.ensures c.place_all.ensures
+returns g c = kept_on c.unlink-unlinked.ensures c.place_all.ensures

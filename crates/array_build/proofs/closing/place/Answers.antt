@@ -3,7 +3,7 @@ use Rattle.array_build.specs.Kept.{kept_held, kept_on}
 use Rattle.array_build.proofs.closing.place.Goals as goal
 
 pub put-requires : goal.put-requires
-put-requires c = kept_held c.roll-rolled.ensures
+put-requires c = kept_held c.make_room-with_room.ensures
 
-pub returns-then-full-h : goal.returns-then-full-h
-returns-then-full-h c = kept_on c.roll-rolled.ensures c.put.ensures
+pub returns : goal.returns
+returns c = kept_on c.make_room-with_room.ensures c.put.ensures

@@ -1,12 +1,8 @@
--- `taken::take_out` is safe: each turn leaves a store of the same settings, and there are turns for 32 records at most.
-use Prim.Native.Nat.{◌-◌, ◌≤◌}
-use mathlib.Core.Path.{◌≡◌}
-use lib.ListN.{length}
+-- `taken::take_out` is safe: each turn leaves a store of the same settings, and room for the records that are left.
+use Rattle.std.proofs.Common.{◌+◌, ◌≤◌, length}
 use Rattle.layout.specs.OnWords.{Held}
+use Rattle.layout.specs.SlotsLeft.{slots_left}
 use Rattle.array_build.proofs.taken.take_out.Given as goal
 
-abbrev pub invariant-loop-i : goal.invariant-loop-i
-invariant-loop-i l = Held l.s l.store × (l.i ≤ l.count) × (l.count ≤ 32) × (length l.store ≡ length l.initial.store)
-
-abbrev pub decreases-loop-i : goal.decreases-loop-i
-decreases-loop-i l = l.count - l.i
+abbrev pub invariant-loop-k : goal.invariant-loop-k
+invariant-loop-k l = record { held : Held l.s l.store; room : l.taken.count + length (slots_left l.k-iterator) ≤ 32 }

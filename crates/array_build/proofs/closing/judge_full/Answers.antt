@@ -1,9 +1,0 @@
--- `closing::judge_full` is safe: one part after the other; a block that closes has fewer than q standing, and 2q ≤ b ≤ 64.
-use Rattle.array_build.specs.Kept.{still_held, kept_on}
-use Rattle.array_build.proofs.closing.judge_full.Goals as goal
-
-pub put_all-requires : goal.put_all-requires
-put_all-requires c = record { held = still_held c.unlink-unlinked.ensures c.take_out-taken.ensures.held; count_bound = c.take_out-taken.ensures.count_bound }
-
-pub returns : goal.returns
-returns c = kept_on c.unlink-unlinked.ensures c.put_all.ensures
