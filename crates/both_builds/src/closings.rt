@@ -1,103 +1,97 @@
-// What an accepted change closed and moved, found from the words of the first build's store before the change (KEPT) and after it (STORE):
-// neither build is asked.
-use crate::tally;
-use model::asked::*;
-use model::memory::*;
-use model::settings::Settings;
-use model::words::*;
-use model::{book, log, settings};
+// What an accepted change closed and moved, found from the words of the first build's store before the change and after it: neither build is
+// asked.
+use model::asked::Kind;
+use model::settings::{DIRECTORY, Settings};
+use model::store::{Store, settings, word};
 
-// Words of a head: b, N, and the records in block N.
-const BLOCK_WORD: u32 = 1;
+// Words of a head: N, and the records in block N.
+pub const OPENED_WORD: usize = 5;
 
-const OPENED_WORD: u32 = 5;
-
-const FILL_WORD: u32 = 7;
-
-// N of the store as it is.
-pub const BLOCKS_OPENED: u32 = STORE + OPENED_WORD;
+const FILL_WORD: usize = 7;
 
 // A block's closed word, and the first of its two words of standing bits.
-const CLOSED_WORD: u32 = 1;
+const CLOSED_WORD: usize = 1;
 
-pub const BITS_WORD: u32 = 6;
+pub const BITS_WORD: usize = 6;
+
+#[derive(Clone, Copy)]
+pub struct Closings {
+    // b of the store.
+    pub block: u32,
+    // N of the store after the change.
+    pub opened: u32,
+    // How many blocks closed, and how many of them had a standing slot that the directory did not name.
+    pub closed: u32,
+    pub strays: u32,
+    // How many records the change wrote beside its own.
+    pub moved: u32,
+}
+
+// The words of a store before a change and after it.
+#[derive(Clone, Copy)]
+struct Words<'a> {
+    before: &'a [u32],
+    after: &'a [u32],
+    settings: Settings,
+}
 
 // "records placed, 0 for N = 0 and else (N − 1) × b + fill", by the head of a store.
-fn placed(memory: &Memory, store: u32) -> u32 {
-    let n = at(memory, store, OPENED_WORD);
-    if n == 0 {
-        return 0;
+fn placed(words: &[u32]) -> u32 {
+    match word(words, OPENED_WORD) {
+        0 => 0,
+        n => settings(words)
+            .before(n)
+            .saturating_add(word(words, FILL_WORD)),
     }
-    let before = product(less(n, 1), at(memory, store, BLOCK_WORD));
-    sum(before, at(memory, store, FILL_WORD))
 }
 
-// Block n has another closed word after the change. (On a damaged store its closed word may have been the change's second: then this misses it.)
-fn closes(memory: &Memory, s: Settings, n: u32) -> bool {
-    let word = sum(settings::block_start(s, n), CLOSED_WORD);
-    get(memory, word) != at(memory, KEPT, word)
-}
-
-// How many of the blocks that were opened before the change closed.
-fn closed(memory: &Memory, s: Settings) -> u32 {
-    let end = sum(get(memory, KEPT + OPENED_WORD), 1);
-    let mut count: u32 = 0;
-    for n in 1..end {
-        count = sum(count, unless(!closes(memory, s, n), 1));
+impl<'a> Words<'a> {
+    // Block n has another closed word after the change. (On a damaged store its closed word may have been the change's second: then this misses
+    // it.)
+    fn closes(self, n: u32) -> bool {
+        let place = self.settings.block_start(n).saturating_add(CLOSED_WORD);
+        word(self.before, place) != word(self.after, place)
     }
-    count
+
+    // Before the change slot k of block n stood, and the directory did not name it: only on a damaged store.
+    fn is_stray(self, n: u32, k: u32) -> bool {
+        let bits_word = BITS_WORD + (k / 32) as usize;
+        let bits = word(
+            self.before,
+            self.settings.block_start(n).saturating_add(bits_word),
+        );
+        let tag = word(self.before, self.settings.slot_start(n, k));
+        let place = self.settings.before(n).saturating_add(k).saturating_add(1);
+        let named = word(self.before, DIRECTORY + tag as usize) == place;
+        bits >> (k % 32) & 1 == 1 && !named
+    }
+
+    // Block n had such a slot.
+    fn has_strays(self, n: u32) -> bool {
+        (0..self.settings.block).any(|k| self.is_stray(n, k))
+    }
 }
 
-// Before the change slot k of block n stood, and the directory did not name it: only on a damaged store.
-fn stray(memory: &Memory, s: Settings, n: u32, k: u32) -> bool {
-    let bits = sum(settings::block_start(s, n), sum(BITS_WORD, k / 32));
-    let tag = at(memory, KEPT, settings::slot_start(s, n, k));
-    let place = sum(sum(product(less(n, 1), s.block), k), 1);
-    let named = at(memory, KEPT, sum(settings::DIRECTORY, tag)) == place;
-    (bit(at(memory, KEPT, bits), k % 32) == 1) & !named
-}
-
-// Block n had such a slot.
-fn strays(memory: &Memory, s: Settings, n: u32) -> bool {
-    for k in 0..s.block {
-        if stray(memory, s, n, k) {
-            return true;
+impl Closings {
+    // What a change of this kind closed and moved, since the store was kept.
+    pub fn of(store: &Store, kind: Kind) -> Closings {
+        let words = Words {
+            before: store.kept(),
+            after: store.words(),
+            settings: settings(store.kept()),
+        };
+        let opened = word(words.before, OPENED_WORD);
+        let closed = (1..=opened).filter(|n| words.closes(*n));
+        let strays = (1..=opened).filter(|n| words.closes(*n) && words.has_strays(*n));
+        // A set and a new reading write a record of their own.
+        let own = u32::from(matches!(kind, Kind::Set | Kind::Update));
+        let moved = placed(words.after).saturating_sub(placed(words.before).saturating_add(own));
+        Closings {
+            block: words.settings.block,
+            opened: word(words.after, OPENED_WORD),
+            closed: closed.count() as u32,
+            strays: strays.count() as u32,
+            moved,
         }
     }
-    false
-}
-
-// How many of the blocks that closed had such a slot.
-fn closed_with_strays(memory: &Memory, s: Settings) -> u32 {
-    let end = sum(get(memory, KEPT + OPENED_WORD), 1);
-    let mut count: u32 = 0;
-    for n in 1..end {
-        if closes(memory, s, n) {
-            count = sum(count, unless(!strays(memory, s, n), 1));
-        }
-    }
-    count
-}
-
-// Records that the change wrote beside its own: a set and a new reading write one of their own.
-fn moved(memory: &Memory, kind: u32) -> u32 {
-    let own = unless((kind != SET) & (kind != UPDATE), 1);
-    less(placed(memory, STORE), sum(placed(memory, KEPT), own))
-}
-
-// Counts what an accepted change closed and moved; then the store is kept as it is.
-pub fn count(memory: &mut Memory, counts: u32, kind: u32) {
-    let s = book::settings_at(memory, KEPT + BLOCK_WORD);
-    let closings = closed(memory, s);
-    let records = moved(memory, kind);
-    tally::closed(memory, counts, s.block, closings, records);
-    tally::opened(memory, counts, get(memory, BLOCKS_OPENED));
-    tally::strays(memory, counts, closed_with_strays(memory, s));
-    keep(memory);
-}
-
-// The store as the next change finds it.
-pub fn keep(memory: &mut Memory) {
-    let extent = log::extent(memory);
-    copy(memory, KEPT, STORE, extent);
 }

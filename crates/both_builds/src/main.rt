@@ -5,16 +5,23 @@
 #![tactic(auto)]
 
 mod builds;
+mod burst;
 mod closings;
 mod damaged;
-mod history;
+mod pair;
+mod run;
 mod tally;
 
-use builds::OtherStore;
-use model::memory::Memory;
-use model::settings::Settings;
-use model::words::*;
-use model::{draw, random, settings};
+use burst::Burst;
+use model::draw;
+use model::history::History;
+use model::notes::Notes;
+use model::out::print;
+use model::random::Random;
+use model::settings::{LISTED, Settings};
+use pair::Pair;
+use run::Run;
+use tally::Tally;
 
 // Histories, and long ones, in which the index gets its third level.
 const HISTORIES: u32 = 4000;
@@ -23,42 +30,41 @@ const LONG_HISTORIES: u32 = 16;
 
 const LONG_CALLS: u32 = 2000;
 
-// How many calls a history has: the more records a block has, the more it takes to fill and close some.
-fn calls(s: Settings) -> u32 {
-    sum(100, product(16, s.block))
-}
-
-// The settings of a history that is not long: for one of two histories listed ones, for the other any.
-fn settings_of(memory: &mut Memory, history: u32) -> Settings {
-    if history % 2 == 0 {
-        return settings::listed(history / 2 % settings::LISTED);
+// The settings and the number of calls of a history. One of two that are not long has listed settings, the other any. The more records a block
+// has, the more calls it takes to fill and close some.
+fn planned(number: u32, random: &mut Random) -> (Settings, u32) {
+    if HISTORIES <= number {
+        return (Settings::listed(LISTED), LONG_CALLS);
     }
-    draw::any_settings(memory)
-}
-
-// One history, then rounds on its damaged store.
-fn one(memory: &mut Memory, other: &mut OtherStore, history: u32) {
-    random::seed(memory, history);
-    tally::begin_history(memory, history);
-    if history < HISTORIES {
-        let s = settings_of(memory, history);
-        history::play(memory, other, s, calls(s));
+    let settings = if number % 2 == 0 {
+        Settings::listed(number / 2 % LISTED)
     } else {
-        let s = settings::listed(settings::LISTED);
-        history::play(memory, other, s, LONG_CALLS);
-    }
-    damaged::rounds(memory, other);
-}
-
-fn all(memory: &mut Memory, other: &mut OtherStore) {
-    for history in 0..HISTORIES + LONG_HISTORIES {
-        one(memory, other, history);
-    }
+        draw::any_settings(random)
+    };
+    (
+        settings,
+        settings.block.saturating_mul(16).saturating_add(100),
+    )
 }
 
 fn main() {
-    let mut memory = [0u32; 81920];
-    let mut other = [0u32; 16384];
-    all(&mut memory, &mut other);
-    tally::print(&memory);
+    let mut pair = Pair::new();
+    let mut tally = Tally::default();
+    let mut notes = Notes::default();
+    for number in 0..HISTORIES + LONG_HISTORIES {
+        let mut random = Random::seeded(number);
+        let (settings, calls) = planned(number, &mut random);
+        notes.begin_history(number);
+        let mut run = Run {
+            history: History::new(random, settings),
+            burst: Burst::default(),
+            pair: &mut pair,
+            tally: &mut tally,
+            notes: &mut notes,
+        };
+        run.play(calls);
+        run.rounds();
+    }
+    print(tally);
+    print(format_args!("mismatches {}\n", notes.mismatches));
 }

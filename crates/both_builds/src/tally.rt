@@ -1,98 +1,53 @@
-// The totals, and what is printed.
-use model::memory::*;
-use model::totals::tell;
-use model::words::*;
+// The totals, and how they are printed.
+use crate::closings::Closings;
+use model::answers::{Answers, Count};
+use model::refusal::Called;
+use std::fmt;
 
-// Counts of the calls of histories, and of those on damaged stores, in the order in which they are printed. First the calls, then their
-// answers by number, 0 to 14: 0 is an accepted call.
-pub const HONEST_COUNTS: u32 = TALLY;
-
-pub const DAMAGED_COUNTS: u32 = TALLY + 32;
-
-const ANSWERS: u32 = 1;
-
-// Closings, changes that closed two blocks, and records moved.
-const CLOSINGS: u32 = 16;
-
-// Closings by changes that moved no record, and the most records that one change moved.
-const NONE_MOVED: u32 = 19;
-
-const MOST_MOVED: u32 = 20;
-
-// Closing changes by how many records they moved: none, 1, and from 2, 4, 8, 16 and 32 on.
-const BY_MOVED: u32 = 21;
-
-// Closings of a block with a standing slot that the directory did not name, and the most blocks opened.
-const STRAYS: u32 = 28;
-
-const MOST_OPENED: u32 = 29;
-
-// By b, three words each, of the histories closings, records moved, and the most that one change moved: b 2 to 3, and from 4, 8, 16 and 32 on.
-const BY_BLOCK: u32 = TALLY + 128;
-
-const HISTORIES: u32 = TALLY + 64;
-
-const MISMATCHES: u32 = TALLY + 65;
-
-// The history that runs, its call, and what of it differed last.
-const HISTORY: u32 = TALLY + 66;
-
-const CALL: u32 = TALLY + 67;
-
-const DIFFERED: u32 = TALLY + 68;
-
-// Notes what differed, if anything did; the first twenty are printed.
-pub fn note(memory: &mut Memory, what: u32) {
-    if what == 0 {
-        return;
-    }
-    put(memory, DIFFERED, what);
-    add(memory, MISMATCHES, 1);
-    if get(memory, MISMATCHES) <= 20 {
-        tell(memory, HISTORY, b"mismatch # # #\n");
-    }
+// Counts of the calls of histories, or of those on damaged stores.
+#[derive(Clone, Copy, Default)]
+pub struct Counts {
+    answers: Answers,
+    // Closings, changes that closed two blocks, and records moved.
+    closings: Count,
+    of_two: Count,
+    moved: Count,
+    // Closings by changes that moved no record, and the most records that one change moved.
+    none_moved: Count,
+    most_moved: u32,
+    // Closing changes by how many records they moved (class).
+    by_moved: [Count; 7],
+    // Closings of a block with a standing slot that the directory did not name, and the most blocks opened.
+    strays: Count,
+    most_opened: u32,
 }
 
-pub fn begin_history(memory: &mut Memory, history: u32) {
-    put(memory, HISTORY, history);
-    put(memory, CALL, 1);
-    add(memory, HISTORIES, 1);
+// Of the histories, for some b: closings, records moved, and the most that one change moved.
+#[derive(Clone, Copy, Default)]
+struct OfBlock {
+    closings: Count,
+    moved: Count,
+    most_moved: u32,
 }
 
-// Counts a call and its answer, which is one of 0 to 14.
-pub fn answered(memory: &mut Memory, counts: u32, got: u32) {
-    add(memory, CALL, 1);
-    add(memory, counts, 1);
-    add(memory, sum(counts, sum(ANSWERS, least(got, 14))), 1);
+#[derive(Clone, Copy, Default)]
+pub struct Tally {
+    pub histories: Count,
+    pub honest: Counts,
+    pub damaged: Counts,
+    // b 2 to 3, and from 4, 8, 16 and 32 on.
+    by_block: [OfBlock; 5],
 }
 
-// A word becomes n if it is less.
-fn raise(memory: &mut Memory, i: u32, n: u32) {
-    let more = less(n, get(memory, i));
-    add(memory, i, more);
-}
-
-// Counts by b, for the histories.
-fn closed_of(memory: &mut Memory, block: u32, closings: u32, records: u32) {
-    let counts = sum(BY_BLOCK, product(3, less(class(block), 2)));
-    add(memory, counts, closings);
-    add(memory, sum(counts, 1), records);
-    raise(memory, sum(counts, 2), records);
-}
-
-// Blocks opened so far in a history.
-pub fn opened(memory: &mut Memory, counts: u32, blocks: u32) {
-    raise(memory, sum(counts, MOST_OPENED), blocks);
-}
-
-pub fn strays(memory: &mut Memory, counts: u32, closings: u32) {
-    add(memory, sum(counts, STRAYS), closings);
-}
+// Counts as they are printed: what the calls were made on stands behind the first line's name, and before the other lines what they are of.
+#[derive(Clone, Copy)]
+struct Told<'a>(&'a Counts, &'static str, &'static str);
 
 // Where a number is counted by its size: 0, 1, and from 2, 4, 8, 16 and 32 on.
-fn class(n: u32) -> u32 {
+fn class(n: u32) -> usize {
     match n {
-        0..=1 => n,
+        0 => 0,
+        1 => 1,
         2..=3 => 2,
         4..=7 => 3,
         8..=15 => 4,
@@ -101,72 +56,97 @@ fn class(n: u32) -> u32 {
     }
 }
 
-// Counts a change that closed a block, or moved records.
-fn closed_some(memory: &mut Memory, counts: u32, closings: u32, records: u32) {
-    let two = unless(closings < 2, 1);
-    let none = product(unless(records != 0, 1), closings);
-    add_three(memory, sum(counts, CLOSINGS), closings, two, records);
-    add(memory, sum(counts, NONE_MOVED), none);
-    add(memory, sum(counts, sum(BY_MOVED, class(records))), 1);
-    raise(memory, sum(counts, MOST_MOVED), records);
-}
+impl Counts {
+    pub fn answered(&mut self, got: Called) {
+        if let Ok(answer) = got {
+            self.answers.count(answer);
+        }
+    }
 
-// Counts what an accepted change closed and moved.
-pub fn closed(memory: &mut Memory, counts: u32, block: u32, closings: u32, records: u32) {
-    if (closings | records) != 0 {
-        closed_some(memory, counts, closings, records);
-        if counts == HONEST_COUNTS {
-            closed_of(memory, block, closings, records);
+    // Counts what an accepted change closed and moved.
+    pub fn closed(&mut self, made: Closings) {
+        self.most_opened = self.most_opened.max(made.opened);
+        self.strays += made.strays;
+        if made.closed == 0 && made.moved == 0 {
+            return;
+        }
+        self.closings += made.closed;
+        self.of_two += u32::from(2 <= made.closed);
+        self.moved += made.moved;
+        self.most_moved = self.most_moved.max(made.moved);
+        if made.moved == 0 {
+            self.none_moved += made.closed;
+        }
+        if let Some(count) = self.by_moved.get_mut(class(made.moved)) {
+            *count += 1;
         }
     }
 }
 
-fn print_by_block(memory: &Memory) {
-    tell(
-        memory,
-        BY_BLOCK,
-        b"b 2 to 3: closings #, records moved #, most by one change #
-b 4 to 7: closings #, records moved #, most by one change #
-b 8 to 15: closings #, records moved #, most by one change #
-b 16 to 31: closings #, records moved #, most by one change #
-b 32 to 64: closings #, records moved #, most by one change #
-",
-    );
+impl Tally {
+    // Counts what an accepted change of a history closed and moved, by b too.
+    pub fn closed(&mut self, made: Closings) {
+        self.honest.closed(made);
+        if let Some(of) = self.by_block.get_mut(class(made.block).saturating_sub(2)) {
+            of.closings += made.closed;
+            of.moved += made.moved;
+            of.most_moved = of.most_moved.max(made.moved);
+        }
+    }
 }
 
-pub fn print(memory: &Memory) {
-    tell(memory, HISTORIES, b"histories #\n");
-    tell(
-        memory,
-        HONEST_COUNTS,
-        b"calls #
-accepted calls #
-refusals 1 to 14: # # # # # # # # # # # # # #
-closings #
-changes that closed two blocks #
-records moved #
-closings by changes that moved no record #
-most records moved by one change #
-closing changes by records moved: none #, 1 #, 2 to 3 #, 4 to 7 #, 8 to 15 #, 16 to 31 #, more #
-closings of a block with a standing record that the directory does not name #
-most blocks opened #
-",
-    );
-    print_by_block(memory);
-    tell(
-        memory,
-        DAMAGED_COUNTS,
-        b"calls on damaged stores #
-damaged, accepted calls #
-damaged, refusals 1 to 14: # # # # # # # # # # # # # #
-damaged, closings #
-damaged, changes that closed two blocks #
-damaged, records moved #
-damaged, closings by changes that moved no record #
-damaged, most records moved by one change #
-damaged, closing changes by records moved: none #, 1 #, 2 to 3 #, 4 to 7 #, 8 to 15 #, 16 to 31 #, more #
-damaged, closings of a block with a standing record that the directory does not name #
-",
-    );
-    tell(memory, MISMATCHES, b"mismatches #\n");
+impl<'a> fmt::Display for Told<'a> {
+    fn fmt<W: fmt::Write>(&self, f: &mut fmt::Formatter<W>) -> fmt::Result {
+        let Told(counts, on, of) = *self;
+        writeln!(f, "calls{on} {}", counts.answers.all())?;
+        writeln!(f, "{of}accepted calls {}", counts.answers.accepted())?;
+        writeln!(f, "{of}refusals 1 to 14:{}", counts.answers.refused())?;
+        writeln!(f, "{of}closings {}", counts.closings)?;
+        writeln!(f, "{of}changes that closed two blocks {}", counts.of_two)?;
+        writeln!(f, "{of}records moved {}", counts.moved)?;
+        writeln!(
+            f,
+            "{of}closings by changes that moved no record {}",
+            counts.none_moved
+        )?;
+        writeln!(
+            f,
+            "{of}most records moved by one change {}",
+            counts.most_moved
+        )?;
+        let [none, one, two, four, eight, sixteen, more] = counts.by_moved;
+        writeln!(
+            f,
+            "{of}closing changes by records moved: none {none}, 1 {one}, 2 to 3 {two}, 4 to 7 {four}, 8 to 15 {eight}, 16 to 31 {sixteen}, more {more}"
+        )?;
+        writeln!(
+            f,
+            "{of}closings of a block with a standing record that the directory does not name {}",
+            counts.strays
+        )
+    }
+}
+
+impl fmt::Display for Tally {
+    fn fmt<W: fmt::Write>(&self, f: &mut fmt::Formatter<W>) -> fmt::Result {
+        writeln!(f, "histories {}", self.histories)?;
+        write!(f, "{}", Told(&self.honest, "", ""))?;
+        writeln!(f, "most blocks opened {}", self.honest.most_opened)?;
+        for (of, b) in self
+            .by_block
+            .iter()
+            .zip(["2 to 3", "4 to 7", "8 to 15", "16 to 31", "32 to 64"])
+        {
+            writeln!(
+                f,
+                "b {b}: closings {}, records moved {}, most by one change {}",
+                of.closings, of.moved, of.most_moved
+            )?;
+        }
+        write!(
+            f,
+            "{}",
+            Told(&self.damaged, " on damaged stores", "damaged, ")
+        )
+    }
 }

@@ -1,117 +1,135 @@
-// Calls on damaged stores. Whatever the words are, a call answers 0 or a refusal that it can meet, and a refused one leaves what
-// documents 01 and 02 say.
-use crate::{called, history, tally};
-use model::asked::*;
-use model::memory::*;
-use model::random::*;
-use model::{book, crossed, damage, draw, log, looked, refusal, settings};
-
-// Words that a call on a damaged store had to leave.
-const WROTE: u32 = 21;
-
-// A second to look back at: often one of the history.
-fn past(memory: &mut Memory) -> u32 {
-    if once_in(memory, 3) {
-        return damage::second(memory);
-    }
-    draw::past(memory)
-}
-
-// Which answers a call can give on any words: 0 and its own refusals. A start is none of these calls.
-fn may(kind: u32, got: u32) -> bool {
-    match got {
-        0 | refusal::SHORT_HEAD | refusal::HEAD | refusal::SHORT_STORE | refusal::TIME_OPEN => true,
-        refusal::EARLY => kind < LOOK_BACK,
-        refusal::LATE | refusal::SHORT_BUFFER => ADVANCE < kind,
-        refusal::TAG | refusal::OUT_OF_BLOCKS => kind < ADVANCE,
-        refusal::STANDING => kind == SET,
-        refusal::NOT_STANDING => settings::between(CLEAR, kind, UPDATE),
-        refusal::UNSOUND => kind != ADVANCE,
-        refusal::REVERSED => kind == WINDOW,
-        _ => false,
-    }
-}
-
-// A refused change leaves all words, an accepted one those beyond the layout, by the settings in the store's own head.
-fn first_left(memory: &Memory, got: u32) -> u32 {
-    let end = settings::layout(book::settings_at(memory, KEPT + 1));
-    if got == 0 { end } else { 0 }
-}
-
-fn change_turn(memory: &mut Memory, kind: u32) {
-    let c = damage::change(memory, kind);
-    let got = called::change(memory, c);
-    tally::answered_damaged(memory, may(kind, got), got);
-    let start = first_left(memory, got);
-    history::left(memory, 0, start, WROTE);
-}
-
-fn look_back_turn(memory: &mut Memory) {
-    let second = past(memory);
-    let length = get(memory, log::LENGTH);
-    let a = draw::look_back_at(memory, length, second);
-    let got = called::look_back(memory, a);
-    tally::answered_damaged(memory, may(LOOK_BACK, got), got);
-    history::left(memory, looked::left(memory, a, got), 0, WROTE);
-}
-
-fn window_turn(memory: &mut Memory) {
-    let last = past(memory);
-    let length = get(memory, log::LENGTH);
-    let a = draw::window_to(memory, length, last);
-    let got = called::window(memory, a);
-    tally::answered_damaged(memory, may(WINDOW, got), got);
-    tally::windowed(memory, tally::DAMAGED_WINDOWS, got);
-    let found = crossed::left(memory, a, got);
-    history::left(memory, found, 0, WROTE);
-}
-
-// A start on a damaged store is as on any: its words do not matter.
-fn start_turn(memory: &mut Memory) {
-    let length = get(memory, log::LENGTH);
-    let s = book::current(memory);
-    let got = called::start(memory, length, s);
-    tally::answered_damaged(memory, got == 0, got);
-    history::keep_zeros(memory);
-    history::left(memory, 0, history::AFTER_SETTINGS, WROTE);
-}
-
-// A round: the store is damaged, then each kind of call, look-backs, windows and clears oftener, and last a start.
-const ROUND: u32 = 13;
+// Calls on damaged stores. Whatever the words are, a call is accepted or turned away with a refusal that it can meet, and a refused one leaves
+// what the papers say.
+use crate::called;
+use crate::run::Run;
+use model::asked::{Call, Kind};
+use model::finding::{Finding, unless};
+use model::refusal::{Answer, Called, Refusal};
+use model::store::{AFTER_SETTINGS, settings};
+use model::{damage, draw};
 
 const ROUNDS: u32 = 3;
 
-// The kind of a round's i-th call.
-fn kind_of(i: u32) -> u32 {
-    match i {
-        1 | 10 => WINDOW,
-        2 | 9 => SET,
-        4 | 7 => CLEAR,
-        5 => UPDATE,
-        8 => ADVANCE,
-        12 => START,
-        _ => LOOK_BACK,
+// The calls of a round: each kind of call, look-backs, windows and clears oftener, and last a start.
+const ROUND: [Call; 13] = [
+    Call::LookBack,
+    Call::Window,
+    Call::Change(Kind::Set),
+    Call::LookBack,
+    Call::Change(Kind::Clear),
+    Call::Change(Kind::Update),
+    Call::LookBack,
+    Call::Change(Kind::Clear),
+    Call::Change(Kind::Advance),
+    Call::Change(Kind::Set),
+    Call::Window,
+    Call::LookBack,
+    Call::Start,
+];
+
+// A call may be turned away so, on some words. A start may not: what stands in the store does not matter to it.
+fn may(call: Call, refusal: Refusal) -> bool {
+    match refusal {
+        Refusal::ShortHead | Refusal::Head | Refusal::ShortStore | Refusal::TimeOpen => call
+            != Call::Start,
+        Refusal::Early => matches!(call, Call::Change(_)),
+        Refusal::Late | Refusal::ShortBuffer => matches!(call, Call::LookBack | Call::Window),
+        Refusal::Tag | Refusal::OutOfBlocks => {
+            matches!(call, Call::Change(Kind::Set | Kind::Clear | Kind::Update))
+        }
+        Refusal::Standing => call == Call::Change(Kind::Set),
+        Refusal::NotStanding => matches!(call, Call::Change(Kind::Clear | Kind::Update)),
+        Refusal::Unsound => !matches!(call, Call::Start | Call::Change(Kind::Advance)),
+        Refusal::Reversed => call == Call::Window,
+        Refusal::Settings => false,
     }
 }
 
-fn turn(memory: &mut Memory, i: u32) {
-    if i == 0 {
-        damage::damage(memory);
+impl<'a> Run<'a> {
+    // The rounds after a history: each damages the store that it left.
+    pub fn rounds(&mut self) {
+        self.store.end();
+        for _ in 0..ROUNDS {
+            damage::damage(self.store, &mut self.history);
+            for call in ROUND {
+                self.notes.begin_call();
+                if let Err(what) = self.damaged(call) {
+                    self.notes.note(what);
+                }
+                self.store.keep();
+            }
+        }
     }
-    let kind = kind_of(i);
-    match kind {
-        START => start_turn(memory),
-        LOOK_BACK => look_back_turn(memory),
-        WINDOW => window_turn(memory),
-        _ => change_turn(memory, kind),
-    }
-}
 
-// The rounds after a history.
-pub fn rounds(memory: &mut Memory) {
-    let extent = log::extent(memory);
-    copy(memory, HONEST, STORE, extent);
-    for i in 0..ROUNDS * ROUND {
-        turn(memory, i % ROUND);
+    fn damaged(&mut self, call: Call) -> Result<(), Finding> {
+        match call {
+            Call::Start => self.damaged_start(),
+            Call::Change(kind) => self.damaged_change(kind),
+            Call::LookBack => self.damaged_look_back(),
+            Call::Window => self.damaged_window(),
+        }
+    }
+
+    // The answer is one that the call can give on some words.
+    fn damaged_answered(&mut self, call: Call, got: Called) -> Result<Answer, Finding> {
+        let answer = got.map_err(|_| Finding::Never)?;
+        if let Err(refusal) = answer {
+            unless(may(call, refusal), Finding::Never)?;
+        }
+        self.tally.damaged.count(answer);
+        Ok(answer)
+    }
+
+    // The words are kept from one on.
+    fn damaged_left(&self, start: usize) -> Result<(), Finding> {
+        unless(self.store.is_kept_from(start), Finding::Wrote)
+    }
+
+    // A start on a damaged store is as on any.
+    fn damaged_start(&mut self) -> Result<(), Finding> {
+        let s = self.history.settings();
+        let got = called::start(self.store, self.history.length, s);
+        self.damaged_answered(Call::Start, got)?
+            .map_err(|_| Finding::Never)?;
+        self.store.keep_started(s);
+        self.damaged_left(AFTER_SETTINGS)
+    }
+
+    // A refused change leaves all words, an accepted one those beyond the layout, by the settings in the store's own head.
+    fn damaged_change(&mut self, kind: Kind) -> Result<(), Finding> {
+        let c = damage::change(self.store, &mut self.history, kind);
+        let got = called::change(self.store, c);
+        let answer = self.damaged_answered(Call::Change(kind), got)?;
+        let end = settings(self.store.kept()).layout();
+        self.damaged_left(if answer.is_ok() { end } else { 0 })
+    }
+
+    // A second to look back at: often one of the history.
+    fn past(&mut self) -> u32 {
+        if self.history.random.once_in(3) {
+            return damage::second(self.store, &mut self.history.random);
+        }
+        draw::past(&mut self.history)
+    }
+
+    fn damaged_look_back(&mut self) -> Result<(), Finding> {
+        let second = self.past();
+        let length = self.history.length;
+        let a = draw::look_back_at(&mut self.history, length, second);
+        let (got, looked) = called::look_back(self.store, a);
+        let answer = self.damaged_answered(Call::LookBack, got)?;
+        looked.left(a, answer)?;
+        self.damaged_left(0)
+    }
+
+    fn damaged_window(&mut self) -> Result<(), Finding> {
+        let last = self.past();
+        let length = self.history.length;
+        let a = draw::window_to(&mut self.history, length, last);
+        let (got, crossed) = called::window(self.store, a);
+        let answer = self.damaged_answered(Call::Window, got)?;
+        self.tally.damaged_windows.count(answer);
+        crossed.left(a, answer)?;
+        self.damaged_left(0)
     }
 }

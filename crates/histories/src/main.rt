@@ -5,11 +5,17 @@
 
 mod called;
 mod damaged;
-mod history;
+mod run;
 mod tally;
 
-use model::memory::*;
-use model::{random, settings, words};
+use model::history::History;
+use model::notes::Notes;
+use model::out::print;
+use model::random::Random;
+use model::settings::{LISTED, Settings};
+use model::store::Store;
+use run::Run;
+use tally::Tally;
 
 // Histories of 200 calls, and long ones, in which the index gets its third level.
 const HISTORIES: u32 = 5000;
@@ -20,27 +26,31 @@ const LONG_HISTORIES: u32 = 24;
 
 const LONG_CALLS: u32 = 2000;
 
-// One history, then rounds on its damaged store.
-fn one(memory: &mut Memory, history: u32) {
-    random::seed(memory, history);
-    tally::begin_history(memory, history);
-    if history < HISTORIES {
-        history::play(memory, settings::listed(history % settings::LISTED), CALLS);
+// The settings and the number of calls of a history.
+fn planned(number: u32) -> (Settings, u32) {
+    if number < HISTORIES {
+        (Settings::listed(number % LISTED), CALLS)
     } else {
-        history::play(memory, settings::listed(settings::LISTED), LONG_CALLS);
-    }
-    damaged::rounds(memory);
-}
-
-fn all(memory: &mut Memory) {
-    for history in 0..HISTORIES + LONG_HISTORIES {
-        one(memory, history);
+        (Settings::listed(LISTED), LONG_CALLS)
     }
 }
 
 fn main() {
-    let mut memory = [0u32; 81920];
-    fill(&mut memory, MARKS, ZEROS, words::MARK - MARKS, 1);
-    all(&mut memory);
-    tally::print(&memory);
+    let mut store = Store::new();
+    let mut tally = Tally::default();
+    let mut notes = Notes::default();
+    for number in 0..HISTORIES + LONG_HISTORIES {
+        let (settings, calls) = planned(number);
+        notes.begin_history(number);
+        let mut run = Run {
+            history: History::new(Random::seeded(number), settings),
+            store: &mut store,
+            tally: &mut tally,
+            notes: &mut notes,
+        };
+        run.play(calls);
+        run.rounds();
+    }
+    print(tally);
+    print(format_args!("mismatches {}\n", notes.mismatches));
 }

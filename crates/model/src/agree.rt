@@ -1,83 +1,92 @@
-// After an accepted start or change: the store against the book and the log. A finding is 0 where they agree, else the number of what does
-// not.
-use crate::memory::*;
-use crate::words::*;
-use crate::{book, settings};
+// After an accepted start or change: the store against the book and the log.
+use crate::book::{Block, Book};
+use crate::finding::{Finding, unless};
+use crate::history::History;
+use crate::settings::{BLOCK_HEAD, DIRECTORY, RECORD_WORDS};
+use crate::store::{Store, word};
+use crate::words::OPEN;
 
-const HEAD: u32 = 4;
+// The mark of a head.
+const HEAD_MARK: u32 = 7001;
 
-const SECONDS: u32 = 5;
-
-const PLACED: u32 = 6;
-
-const BOUND: u32 = 7;
-
-const SLOT: u32 = 8;
-
-const DIRECTORY: u32 = 9;
+// Compared of the head: mark and settings, N and the clock, and the six zeros.
+fn head(words: &[u32], history: &History) -> bool {
+    let s = history.settings();
+    let due = [
+        HEAD_MARK,
+        s.block,
+        s.useful,
+        s.blocks,
+        s.tags,
+        history.book.opened(),
+        history.clock,
+    ];
+    words.starts_with(due.as_slice()) && words.iter().take(16).skip(10).all(|word| *word == 0)
+}
 
 // "records placed, 0 for N = 0 and else (N − 1) × b + fill", are the book's; and records placed × (b − q + 1) ≤ b × accepted sets and new
 // readings.
-fn placed(memory: &Memory) -> u32 {
-    let n = get(memory, STORE + 5);
-    let fill = if n == 0 { 0 } else { get(memory, STORE + 7) };
-    let count = sum(book::before(memory, n), fill);
-    let block = get(memory, book::BLOCK);
-    let share = sum(less(block, get(memory, book::USEFUL)), 1);
-    let is_placed = count == get(memory, book::PLACED);
-    let is_bound = product(count, share) <= product(block, get(memory, book::SETS));
-    first(unless(is_placed, PLACED), unless(is_bound, BOUND))
+fn placed(words: &[u32], history: &History) -> Result<(), Finding> {
+    let s = history.settings();
+    let n = word(words, 5);
+    let fill = if n == 0 { 0 } else { word(words, 7) };
+    let count = s.before(n).saturating_add(fill);
+    unless(count == history.book.placed(), Finding::Placed)?;
+    let share = s.block.saturating_sub(s.useful).saturating_add(1);
+    let sets = history.log.sets() as u64;
+    let is_bound = u64::from(count) * u64::from(share) <= sets.saturating_mul(u64::from(s.block));
+    unless(is_bound, Finding::Bound)
 }
 
-// The opened and closed word of the block that starts here are the seconds of the book's block n.
-fn seconds(memory: &Memory, start: u32, n: u32) -> bool {
-    (get(memory, start) == at(memory, book::OPENED, n))
-        & (at(memory, start, 1) == at(memory, book::CLOSED, n))
+// A slot's standing bit is set if the book's record at a place stands; then the slot has no end. If there is a record, the slot has its tag.
+fn slot_agrees(slot: &[u32], bit: bool, place: u32, book: &Book) -> bool {
+    let stands = book.stands(place);
+    let tagged = book.tag_at(place).is_none_or(|tag| word(slot, 0) == tag);
+    bit == stands && tagged && (!stands || word(slot, 3) == OPEN)
 }
 
-// The standing bit of slot k of the block that starts here, in one of two words.
-fn standing_bit(memory: &Memory, start: u32, k: u32) -> bool {
-    bit(at(memory, start, sum(6, k / 32)), k % 32) == 1
-}
-
-// The slot that starts here has the tag of the book's record at a place, if there is one, and no end if that stands.
-fn record(memory: &Memory, slot: u32, place: u32, stands: bool) -> bool {
-    let tagged = get(memory, slot) == at(memory, book::TAG, place);
-    let open = at(memory, slot, 3) == OPEN;
-    (tagged | (get(memory, book::PLACED) < place)) & (open | !stands)
-}
-
-// The slot at a place, and with it its block's seconds.
-fn slot(memory: &Memory, place: u32) -> u32 {
-    let s = book::current(memory);
-    let n = book::block_of(memory, place);
-    let k = book::slot_of(memory, place);
-    let start = settings::block_start(s, n);
-    let stands = book::stands(memory, place);
-    let standing = standing_bit(memory, start, k) == stands;
-    let recorded = record(memory, settings::slot_start(s, n, k), place, stands);
-    let timed = seconds(memory, start, n);
-    first(unless(timed, SECONDS), unless(standing & recorded, SLOT))
-}
-
-// Every slot of every block of the book.
-fn slots(memory: &Memory) -> u32 {
-    let end = sum(book::before(memory, sum(get(memory, book::BLOCKS), 1)), 1);
-    for place in 1..end {
-        let found = slot(memory, place);
-        if found != 0 {
-            return found;
-        }
+// The words of block n of the book: its opening and closing second, and its slots with their standing bits.
+fn block_agrees(words: &[u32], n: u32, block: Block, book: &Book) -> Result<(), Finding> {
+    let Some((own, records)) = words.split_at_checked(BLOCK_HEAD) else {
+        return Err(Finding::Seconds);
+    };
+    let seconds = [block.opened, block.closed.unwrap_or(OPEN)];
+    unless(own.starts_with(seconds.as_slice()), Finding::Seconds)?;
+    let mut bits = u64::from(own[6]) | u64::from(own[7]) << 32;
+    let places = book.settings.places(n);
+    for (slot, place) in records.chunks_exact(RECORD_WORDS).zip(places) {
+        unless(slot_agrees(slot, bits & 1 == 1, place, book), Finding::Slot)?;
+        bits >>= 1;
     }
-    0
+    Ok(())
 }
 
-// The whole store against book and log. Compared of the head: mark and settings, N and the clock, and the six zeros. The directory has for
-// each tag the place of its standing record, or 0.
-pub fn store_agrees(memory: &Memory) -> u32 {
-    let head = same(memory, STORE, BOOK, 7) & same(memory, STORE + 10, BOOK + 10, 6);
-    let tags = get(memory, book::TAGS);
-    let directory = same(memory, settings::DIRECTORY, book::PLACES, tags);
-    let found = first(slots(memory), unless(directory, DIRECTORY));
-    first(unless(head, HEAD), first(placed(memory), found))
+// All blocks of the book, with every slot.
+fn blocks_agree(words: &[u32], book: &Book) -> Result<(), Finding> {
+    for (n, block) in (1u32..=640).zip(&book.blocks) {
+        let start = book.settings.block_start(n);
+        let end = start.saturating_add(book.settings.block_words());
+        let block_words = words.get(start..end).ok_or(Finding::Seconds)?;
+        block_agrees(block_words, n, *block, book)?;
+    }
+    Ok(())
+}
+
+// The directory has for each tag the place of its standing record, or 0.
+fn directory(words: &[u32], book: &Book) -> bool {
+    let places = book.places().iter().map(|place| place.unwrap_or(0));
+    words.get(DIRECTORY..).is_some_and(|words| words
+        .iter()
+        .copied()
+        .zip(places)
+        .all(|(word, place)| word == place))
+}
+
+// The whole store against book and log.
+pub fn store_agrees(store: &Store, history: &History) -> Result<(), Finding> {
+    let words = store.words();
+    unless(head(words, history), Finding::Head)?;
+    placed(words, history)?;
+    blocks_agree(words, &history.book)?;
+    unless(directory(words, &history.book), Finding::Directory)
 }

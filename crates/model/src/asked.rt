@@ -1,44 +1,85 @@
-// What is asked of the register: the kinds of calls, and their arguments as they are drawn.
+// What is asked of the register, as it is drawn.
 
-// Kinds of calls, numbered as everywhere in the project. UPDATE is a new reading, ADVANCE a clock move.
-pub const START: u32 = 1;
+// The kinds of changes: an update is a new reading, an advance a clock move.
+#[derive(Clone, Copy, PartialEq, Eq)]
+pub enum Kind {
+    Set,
+    Clear,
+    Update,
+    Advance,
+}
 
-pub const SET: u32 = 2;
+// The kinds of calls.
+#[derive(Clone, Copy, PartialEq, Eq)]
+pub enum Call {
+    Start,
+    Change(Kind),
+    LookBack,
+    Window,
+}
 
-pub const CLEAR: u32 = 3;
+// What a change does.
+#[derive(Clone, Copy)]
+pub enum Action {
+    Set { tag: u32, reading: u32 },
+    Clear { tag: u32 },
+    Update { tag: u32, reading: u32 },
+    Advance,
+}
 
-pub const UPDATE: u32 = 4;
-
-pub const ADVANCE: u32 = 5;
-
-pub const LOOK_BACK: u32 = 6;
-
-pub const WINDOW: u32 = 7;
-
-// A set, clear, new reading or clock move, with the number of words that are lent.
+// A change, with the number of words that are lent.
 #[derive(Clone, Copy)]
 pub struct Change {
-    pub kind: u32,
-    pub length: u32,
+    pub length: usize,
     pub second: u32,
-    pub tag: u32,
-    pub reading: u32,
+    pub action: Action,
 }
 
 // A look-back, with the numbers of words that are lent: of the store, for rows, and for the list.
 #[derive(Clone, Copy)]
 pub struct LookBack {
-    pub length: u32,
+    pub length: usize,
     pub second: u32,
-    pub row_words: u32,
-    pub list_words: u32,
+    pub row_words: usize,
+    pub list_words: usize,
 }
 
 // A window from a first to a last second, with the numbers of words that are lent: of the store, and for rows.
 #[derive(Clone, Copy)]
 pub struct Window {
-    pub length: u32,
+    pub length: usize,
     pub first: u32,
     pub last: u32,
-    pub row_words: u32,
+    pub row_words: usize,
+}
+
+impl Action {
+    // Of what was drawn, what its kind takes.
+    pub fn of(kind: Kind, tag: u32, reading: u32) -> Action {
+        match kind {
+            Kind::Set => Action::Set { tag, reading },
+            Kind::Clear => Action::Clear { tag },
+            Kind::Update => Action::Update { tag, reading },
+            Kind::Advance => Action::Advance,
+        }
+    }
+
+    pub fn kind(self) -> Kind {
+        match self {
+            Action::Set { .. } => Kind::Set,
+            Action::Clear { .. } => Kind::Clear,
+            Action::Update { .. } => Kind::Update,
+            Action::Advance => Kind::Advance,
+        }
+    }
+
+    // A clock move has no tag.
+    pub fn tag(self) -> Option<u32> {
+        match self {
+            Action::Set { tag, .. } | Action::Clear { tag } | Action::Update { tag, .. } => Some(
+                tag,
+            ),
+            Action::Advance => None,
+        }
+    }
 }

@@ -1,106 +1,112 @@
 // Damaged stores, and changes drawn for them: a store that a history left, with some words overwritten, mostly such as calls go by.
-use crate::asked::Change;
-use crate::memory::*;
-use crate::random::*;
-use crate::settings::Settings;
-use crate::words::*;
-use crate::{book, log, settings};
+use crate::asked::{Action, Change, Kind};
+use crate::history::History;
+use crate::random::Random;
+use crate::settings::{BLOCK_HEAD, DIRECTORY, RECORD_WORDS, Settings};
+use crate::store::{Store, word};
+use crate::words::OPEN;
 
 // Words of the head: N and the clock.
-const BLOCKS_WORD: u32 = STORE + 5;
+const BLOCKS_WORD: usize = 5;
 
-const CLOCK_WORD: u32 = STORE + 6;
+const CLOCK_WORD: usize = 6;
 
-// A word of one of the index's three levels, among the entries of n blocks.
-fn index_word(memory: &mut Memory, n: u32) -> u32 {
-    match below(memory, 3) {
-        0 => sum(16, below(memory, n)),
-        1 => sum(4112, below(memory, sum(n / 16, 1))),
-        _ => sum(4368, below(memory, 3)),
+// What a history left: its settings, N and the clock.
+#[derive(Clone, Copy)]
+struct Left {
+    settings: Settings,
+    blocks: u32,
+    clock: u32,
+}
+
+impl Left {
+    // A word of one of the index's three levels, among the entries of the blocks.
+    fn index_word(self, random: &mut Random) -> usize {
+        match random.below(3) {
+            0 => 16 + random.below(self.blocks) as usize,
+            1 => 4112 + random.below(self.blocks / 16 + 1) as usize,
+            _ => 4368 + random.below(3) as usize,
+        }
+    }
+
+    // A word of a block's own eight.
+    fn block_word(self, random: &mut Random) -> usize {
+        let n = random.below(self.blocks).saturating_add(1);
+        let start = self.settings.block_start(n);
+        start.saturating_add(random.below(8) as usize)
+    }
+
+    // A word of a record.
+    fn record_word(self, random: &mut Random) -> usize {
+        let n = random.below(self.blocks).saturating_add(1);
+        let k = random.below(self.settings.block);
+        let start = self.settings.slot_start(n, k);
+        start.saturating_add(random.below(5) as usize)
+    }
+
+    // Which word is overwritten: of the head, the index, the directory, a block's own words or a record.
+    fn damaged_word(self, random: &mut Random) -> usize {
+        match random.below(32) {
+            0 => random.below(16) as usize,
+            1..=3 => self.index_word(random),
+            4..=7 => DIRECTORY + random.below(self.settings.tags) as usize,
+            8..=25 => self.block_word(random),
+            _ => self.record_word(random),
+        }
+    }
+
+    // What it is overwritten with: numbers near what may stand there, or any word.
+    fn damaging_word(self, random: &mut Random) -> u32 {
+        let Settings { block, tags, .. } = self.settings;
+        let records = self.blocks.saturating_mul(block);
+        match random.below(8) {
+            0 => 0,
+            1 => random.below(self.blocks.saturating_add(2)),
+            2 => random.below(16),
+            3 => self.clock,
+            4 => OPEN,
+            5 => random.word(),
+            6 => random.below(tags.saturating_add(1)),
+            _ => random.below(records.saturating_add(2)),
+        }
     }
 }
 
-// A word of a block's own eight, or of a record.
-fn block_word(memory: &mut Memory, s: Settings, n: u32, of_record: bool) -> u32 {
-    let block = sum(below(memory, n), 1);
-    if of_record {
-        let k = below(memory, s.block);
-        return sum(
-            settings::slot_start(s, block, k),
-            below(memory, settings::RECORD_WORDS),
-        );
+// The store as the history left it, with one to six words overwritten, mostly such as calls go by.
+pub fn damage(store: &mut Store, history: &mut History) {
+    store.restore();
+    let left = Left {
+        settings: history.settings(),
+        blocks: word(store.words(), BLOCKS_WORD),
+        clock: word(store.words(), CLOCK_WORD),
+    };
+    let random = &mut history.random;
+    for _ in 0..random.below(6) + 1 {
+        let place = left.damaged_word(random);
+        store.put(place, left.damaging_word(random));
     }
-    sum(settings::block_start(s, block), below(memory, 8))
-}
-
-// Which word is overwritten: of the head, the index, the directory, a block's own words or a record.
-fn damaged_word(memory: &mut Memory, s: Settings, n: u32) -> u32 {
-    match below(memory, 32) {
-        0 => below(memory, 16),
-        1..=3 => index_word(memory, n),
-        4..=7 => sum(settings::DIRECTORY, below(memory, s.tags)),
-        8..=25 => block_word(memory, s, n, false),
-        _ => block_word(memory, s, n, true),
-    }
-}
-
-// What it is overwritten with: numbers near what may stand there, or any word.
-fn damaging_word(memory: &mut Memory, s: Settings, n: u32, clock: u32) -> u32 {
-    match below(memory, 8) {
-        0 => 0,
-        1 => below(memory, sum(n, 2)),
-        2 => below(memory, 16),
-        3 => clock,
-        4 => OPEN,
-        5 => word(memory),
-        6 => below(memory, sum(s.tags, 1)),
-        _ => below(memory, sum(product(n, s.block), 2)),
-    }
-}
-
-// Overwrites one to six words of the store, mostly such as calls go by.
-fn overwrite(memory: &mut Memory) {
-    let s = book::current(memory);
-    let n = get(memory, BLOCKS_WORD);
-    let clock = get(memory, CLOCK_WORD);
-    let times = sum(below(memory, 6), 1);
-    for k in 0..times {
-        let i = damaged_word(memory, s, n);
-        let word = damaging_word(memory, s, n, clock);
-        put(memory, i, word);
-    }
-}
-
-// The store as the history left it, damaged.
-pub fn damage(memory: &mut Memory) {
-    let extent = log::extent(memory);
-    copy(memory, STORE, HONEST, extent);
-    overwrite(memory);
-    copy(memory, KEPT, STORE, extent);
+    store.keep();
 }
 
 // The second of a call on a damaged store: its clock word or one near it, sometimes any.
-pub fn second(memory: &mut Memory) -> u32 {
-    let clock = get(memory, CLOCK_WORD);
-    match below(memory, 10) {
-        0 => word(memory),
-        1..=3 => sum(clock, below(memory, 3)),
+pub fn second(store: &Store, random: &mut Random) -> u32 {
+    let clock = word(store.words(), CLOCK_WORD);
+    match random.below(10) {
+        0 => random.word(),
+        1..=3 => clock.wrapping_add(random.below(3)),
         _ => clock,
     }
 }
 
 // A change on a damaged store, lent as its history lent it.
-pub fn change(memory: &mut Memory, kind: u32) -> Change {
-    let length = get(memory, log::LENGTH);
-    let second = second(memory);
-    let tags = get(memory, book::TAGS);
-    let tag = below(memory, sum(tags, 1));
-    let reading = word(memory);
+pub fn change(store: &Store, history: &mut History, kind: Kind) -> Change {
+    let tags = history.settings().tags;
+    let second = second(store, &mut history.random);
+    let tag = history.random.below(tags.saturating_add(1));
+    let reading = history.random.word();
     Change {
-        kind,
-        length,
+        length: history.length,
         second,
-        tag,
-        reading,
+        action: Action::of(kind, tag, reading),
     }
 }

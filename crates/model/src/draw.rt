@@ -1,157 +1,114 @@
 // Random arguments: mostly sensible, sometimes such as a refusal is for.
-use crate::asked::*;
-use crate::memory::*;
-use crate::random::*;
-use crate::settings::Settings;
-use crate::words::*;
-use crate::{book, log, settings};
+use crate::asked::{Action, Change, Kind, LookBack, Window};
+use crate::history::History;
+use crate::random::Random;
+use crate::settings::{LISTED, Settings};
+use crate::words::OPEN;
 
 // Where a late history goes with its first change: some 90 seconds before the last.
 const LATE_SECOND: u32 = 4294967200;
 
 // How many words of the store are lent: all that the history has, and now and then too few.
-pub fn length(memory: &mut Memory) -> u32 {
-    match below(memory, 160) {
+pub fn length(history: &mut History) -> usize {
+    match history.random.below(160) {
         0 => 0,
         1 => 15,
         2 => 16,
-        3 => less(book::layout(memory), 1),
-        _ => get(memory, log::LENGTH),
+        3 => history.settings().layout().saturating_sub(1),
+        _ => history.length,
     }
 }
 
-// A store of marks, lent as long as the layout or somewhat longer; nothing is started yet.
-pub fn unstarted(memory: &mut Memory, s: Settings) {
-    book::begin(memory, s, 0);
-    let more = less(below(memory, 80), 40);
-    put(memory, log::LENGTH, sum(settings::layout(s), more));
-    let late = below(memory, 8);
-    put(memory, log::LATE, late);
-    let end = log::extent(memory);
-    fill(memory, STORE, end, MARK, 1);
-    copy(memory, KEPT, STORE, end);
-}
-
-// The clock moved on; past the last second it is OPEN.
-fn later(clock: u32, seconds: u32) -> u32 {
-    let second = sum(clock, seconds);
-    if second < clock { OPEN } else { second }
-}
-
-// A second from the clock on, sometimes before it, sometimes OPEN.
-fn from_clock(memory: &mut Memory, clock: u32) -> u32 {
-    match below(memory, 40) {
-        0 => OPEN,
-        1 => less(clock, sum(below(memory, 5), 1)),
-        2..=19 => clock,
-        20..=35 => later(clock, 1),
-        _ => later(clock, below(memory, 20)),
-    }
-}
-
-// The second of a change; the first of a late history is late.
-fn second(memory: &mut Memory) -> u32 {
-    let clock = get(memory, book::CLOCK);
-    if (clock | get(memory, log::LATE)) == 0 {
+// The second of a change: from the clock on, sometimes before it, sometimes OPEN, as is what would be past the last second. The first of a late
+// history is late.
+fn second(history: &mut History) -> u32 {
+    let clock = history.clock;
+    if clock == 0 && history.late {
         return LATE_SECOND;
     }
-    from_clock(memory, clock)
+    match history.random.below(40) {
+        0 => OPEN,
+        1 => clock.saturating_sub(history.random.below(5) + 1),
+        2..=19 => clock,
+        20..=35 => clock.saturating_add(1),
+        _ => clock.saturating_add(history.random.below(20)),
+    }
 }
 
 // A second to look back at: any up to the clock, often a late one, sometimes one after the clock, sometimes OPEN.
-pub fn past(memory: &mut Memory) -> u32 {
-    let clock = get(memory, book::CLOCK);
-    match below(memory, 24) {
+pub fn past(history: &mut History) -> u32 {
+    let clock = history.clock;
+    let next = clock.saturating_add(1);
+    match history.random.below(24) {
         0 => OPEN,
-        1 => sum(clock, 1),
+        1 => next,
         2..=4 => clock,
-        5..=11 => less(clock, below(memory, 90)),
-        _ => below(memory, sum(clock, 1)),
+        5..=11 => clock.saturating_sub(history.random.below(90)),
+        _ => history.random.below(next),
     }
 }
 
-// The tag can have a change of this kind: a set if it does not stand, any other if it stands.
-fn fits(memory: &Memory, kind: u32, tag: u32) -> bool {
-    (kind == SET) == (at(memory, book::PLACES, tag) == 0)
-}
-
-// From a tag on, round the end, the first that fits the kind of change; the tag itself if there is none.
-fn next_tag(memory: &Memory, kind: u32, first: u32) -> u32 {
-    let tags = get(memory, book::TAGS);
-    for i in 0..tags {
-        let tag = rest(sum(first, i), tags);
-        if fits(memory, kind, tag) {
-            return tag;
-        }
+// A tag that fits the kind of change, for three calls in four: one that does not stand for a set, one that stands for any other, the next such
+// from a drawn one on, round the end. Sometimes none of the register's.
+fn tag(history: &mut History, kind: Kind) -> u32 {
+    let tags = history.settings().tags;
+    if history.random.once_in(30) {
+        return tags.saturating_add(history.random.below(3));
     }
-    first
-}
-
-// A tag that fits the kind of change, for three calls in four; sometimes none of the register's.
-fn tag(memory: &mut Memory, kind: u32) -> u32 {
-    let tags = get(memory, book::TAGS);
-    if once_in(memory, 30) {
-        return sum(tags, below(memory, 3));
-    }
-    let first = below(memory, tags);
-    if once_in(memory, 4) {
+    let first = history.random.below(tags);
+    if history.random.once_in(4) {
         return first;
     }
-    next_tag(memory, kind, first)
+    let book = &history.book;
+    let mut round = (first..tags).chain(0..first);
+    let fitting = round.find(|tag| book.place_of(*tag).is_none() == (kind == Kind::Set));
+    fitting.unwrap_or(first)
 }
 
 // Length of a lent buffer: enough, to spare, or one too few.
-fn buffer(memory: &mut Memory, enough: u32) -> u32 {
-    let r = below(memory, 20);
-    match r {
-        0 => less(enough, 1),
-        1..=4 => sum(enough, r),
+fn buffer(random: &mut Random, enough: usize) -> usize {
+    match random.below(20) {
+        0 => enough.saturating_sub(1),
+        more @ 1..=4 => enough.saturating_add(more as usize),
         _ => enough,
     }
 }
 
-// Settings for a start within a history: listed ones, or now and then bad ones; in a long history, one of more than 256 blocks, bad ones
-// only, so that it goes on.
-pub fn settings(memory: &mut Memory) -> Settings {
-    let bad = settings::bad(below(memory, 12));
-    if 256 < get(memory, book::MOST_BLOCKS) {
+// Settings for a start within a history: listed ones, or now and then bad ones; in a long history bad ones only, so that it goes on.
+pub fn settings(history: &mut History) -> Settings {
+    let bad = Settings::bad(history.random.below(12));
+    if history.settings().is_long() || history.random.once_in(3) {
         return bad;
     }
-    if once_in(memory, 3) {
-        return bad;
-    }
-    settings::listed(below(memory, settings::LISTED))
+    Settings::listed(history.random.below(LISTED))
 }
 
 // Any settings within the limits, but that book and store have room for 30 blocks and 60 tags.
-pub fn any_settings(memory: &mut Memory) -> Settings {
-    let block = sum(below(memory, 63), 2);
-    let useful = sum(below(memory, block / 2), 1);
-    let blocks = sum(below(memory, 28), 3);
-    let tags = sum(below(memory, 57), 4);
-    settings::of(block, useful, blocks, tags)
+pub fn any_settings(random: &mut Random) -> Settings {
+    let block = random.below(63) + 2;
+    let useful = random.below(block / 2) + 1;
+    let blocks = random.below(28) + 3;
+    let tags = random.below(57) + 4;
+    Settings::new(block, useful, blocks, tags)
 }
 
-pub fn change(memory: &mut Memory, kind: u32) -> Change {
-    let length = length(memory);
-    let second = second(memory);
-    let tag = tag(memory, kind);
-    let reading = word(memory);
+pub fn change(history: &mut History, kind: Kind) -> Change {
+    let length = length(history);
+    let second = second(history);
+    let tag = tag(history, kind);
+    let reading = history.random.word();
     Change {
-        kind,
         length,
         second,
-        tag,
-        reading,
+        action: Action::of(kind, tag, reading),
     }
 }
 
 // A look-back at a second, with buffers for D rows and B blocks.
-pub fn look_back_at(memory: &mut Memory, length: u32, second: u32) -> LookBack {
-    let rows = product(settings::ROW_WORDS, get(memory, book::TAGS));
-    let row_words = buffer(memory, rows);
-    let blocks = get(memory, book::MOST_BLOCKS);
-    let list_words = buffer(memory, blocks);
+pub fn look_back_at(history: &mut History, length: usize, second: u32) -> LookBack {
+    let s = history.settings();
+    let row_words = buffer(&mut history.random, s.row_words());
+    let list_words = buffer(&mut history.random, s.blocks as usize);
     LookBack {
         length,
         second,
@@ -160,30 +117,30 @@ pub fn look_back_at(memory: &mut Memory, length: u32, second: u32) -> LookBack {
     }
 }
 
-pub fn look_back(memory: &mut Memory) -> LookBack {
-    let length = length(memory);
-    let second = past(memory);
-    look_back_at(memory, length, second)
+pub fn look_back(history: &mut History) -> LookBack {
+    let length = length(history);
+    let second = past(history);
+    look_back_at(history, length, second)
 }
 
 // The first second of a window with this last one: the same, one shortly or long before it, the history's beginning; sometimes one after it,
 // sometimes any.
-fn first_of(memory: &mut Memory, last: u32) -> u32 {
-    match below(memory, 16) {
+fn first_of(history: &mut History, last: u32) -> u32 {
+    match history.random.below(16) {
         0..=2 => last,
-        3..=7 => less(last, below(memory, 8)),
-        8..=11 => less(last, below(memory, 90)),
+        3..=7 => last.saturating_sub(history.random.below(8)),
+        8..=11 => last.saturating_sub(history.random.below(90)),
         12..=13 => 0,
-        14 => sum(last, sum(below(memory, 3), 1)),
-        _ => past(memory),
+        14 => last.wrapping_add(history.random.below(3) + 1),
+        _ => past(history),
     }
 }
 
 // A window that ends at a second, with a buffer for D rows.
-pub fn window_to(memory: &mut Memory, length: u32, last: u32) -> Window {
-    let first = first_of(memory, last);
-    let rows = product(settings::ROW_WORDS, get(memory, book::TAGS));
-    let row_words = buffer(memory, rows);
+pub fn window_to(history: &mut History, length: usize, last: u32) -> Window {
+    let first = first_of(history, last);
+    let enough = history.settings().row_words();
+    let row_words = buffer(&mut history.random, enough);
     Window {
         length,
         first,
@@ -192,8 +149,8 @@ pub fn window_to(memory: &mut Memory, length: u32, last: u32) -> Window {
     }
 }
 
-pub fn window(memory: &mut Memory) -> Window {
-    let length = length(memory);
-    let last = past(memory);
-    window_to(memory, length, last)
+pub fn window(history: &mut History) -> Window {
+    let length = length(history);
+    let last = past(history);
+    window_to(history, length, last)
 }

@@ -1,74 +1,69 @@
-// What documents 01 and 02 have a call answer after an honest history: 0, or the first refusal of its list that applies. UNSOUND never does.
-use crate::asked::*;
-use crate::memory::*;
+// What the papers have a call answer after an honest history: it is accepted, or turned away for the first refusal of their list that applies.
+// Unsound never does.
+use crate::asked::{Action, Change, LookBack, Window};
+use crate::finding::unless;
+use crate::history::History;
+use crate::refusal::{Answer, Refusal};
 use crate::settings::Settings;
-use crate::words::*;
-use crate::{book, log, refusal, settings};
+use crate::words::OPEN;
 
-const HEAD_WORDS: u32 = 16;
+const HEAD_WORDS: usize = 16;
 
-pub fn start(s: Settings, length: u32) -> u32 {
-    let bad = unless(settings::within(s), refusal::SETTINGS);
-    let headless = unless(HEAD_WORDS <= length, refusal::SHORT_HEAD);
-    let short = unless(settings::layout(s) <= length, refusal::SHORT_STORE);
-    first(bad, first(headless, short))
+pub fn start(settings: Settings, length: usize) -> Answer {
+    unless(settings.within(), Refusal::Settings)?;
+    unless(HEAD_WORDS <= length, Refusal::ShortHead)?;
+    unless(settings.layout() <= length, Refusal::ShortStore)
 }
 
 // What every call but a start is refused for first. Before the first start the store has no mark.
-fn on_store(memory: &Memory, length: u32, second: u32) -> u32 {
-    let headless = unless(HEAD_WORDS <= length, refusal::SHORT_HEAD);
-    let unmarked = unless(get(memory, book::STARTED) != 0, refusal::HEAD);
-    let short = unless(book::layout(memory) <= length, refusal::SHORT_STORE);
-    let open = unless(second != OPEN, refusal::TIME_OPEN);
-    first(headless, first(unmarked, first(short, open)))
+fn on_store(history: &History, length: usize, second: u32) -> Answer {
+    unless(HEAD_WORDS <= length, Refusal::ShortHead)?;
+    unless(history.started, Refusal::Head)?;
+    unless(history.settings().layout() <= length, Refusal::ShortStore)?;
+    unless(second != OPEN, Refusal::TimeOpen)
 }
 
 // Refusals for the tag of a change whose second is fine. All changes of the log are made by then, so that the state is the state so far.
-fn of_tag(memory: &Memory, c: Change) -> u32 {
-    let unknown = unless(c.tag < get(memory, book::TAGS), refusal::TAG);
-    let stands = log::state_at(memory, c.tag, c.second) != 0;
-    let standing = if c.kind == SET {
-        unless(!stands, refusal::STANDING)
+fn of_tag(history: &History, tag: u32, second: u32, sets: bool) -> Answer {
+    unless(tag < history.settings().tags, Refusal::Tag)?;
+    let stands = history.log.state_at(tag, second).is_some();
+    if sets {
+        unless(!stands, Refusal::Standing)
     } else {
-        unless(stands, refusal::NOT_STANDING)
-    };
-    first(unknown, standing)
-}
-
-// All that a change is refused for, but that the blocks run out. A clock move has no tag.
-fn of_change(memory: &Memory, c: Change) -> u32 {
-    let early = unless(get(memory, book::CLOCK) <= c.second, refusal::EARLY);
-    let timed = first(on_store(memory, c.length, c.second), early);
-    if c.kind == ADVANCE {
-        timed
-    } else {
-        first(timed, of_tag(memory, c))
+        unless(stands, Refusal::NotStanding)
     }
 }
 
-// Where nothing is due, the book has the change.
-pub fn change(memory: &mut Memory, c: Change) -> u32 {
-    let due = of_change(memory, c);
-    if (due == 0) & (c.kind != ADVANCE) {
-        return unless(book::takes(memory, c), refusal::OUT_OF_BLOCKS);
+// Where nothing else is due, the book takes the change, unless the blocks run out. A clock move has no tag, and leaves the book.
+pub fn change(history: &mut History, c: Change) -> Answer {
+    on_store(history, c.length, c.second)?;
+    unless(history.clock <= c.second, Refusal::Early)?;
+    match c.action {
+        Action::Set { tag, .. } => of_tag(history, tag, c.second, true)?,
+        Action::Clear { tag } | Action::Update { tag, .. } => of_tag(
+            history, tag, c.second, false,
+        )?,
+        Action::Advance => return Ok(()),
     }
-    due
+    unless(history.book.takes(c.second, c.action), Refusal::OutOfBlocks)
 }
 
-pub fn look_back(memory: &Memory, a: LookBack) -> u32 {
-    let late = unless(a.second <= get(memory, book::CLOCK), refusal::LATE);
-    let rows = product(settings::ROW_WORDS, get(memory, book::TAGS)) <= a.row_words;
-    let list = get(memory, book::MOST_BLOCKS) <= a.list_words;
-    let short = unless(rows & list, refusal::SHORT_BUFFER);
-    first(on_store(memory, a.length, a.second), first(late, short))
+pub fn look_back(history: &History, a: LookBack) -> Answer {
+    let s = history.settings();
+    on_store(history, a.length, a.second)?;
+    unless(a.second <= history.clock, Refusal::Late)?;
+    let fits = s.row_words() <= a.row_words && s.blocks as usize <= a.list_words;
+    unless(fits, Refusal::ShortBuffer)
 }
 
 // "14, t2 before t1, after refusal 5, which both times must pass; refusal 7 looks at t2"
-pub fn window(memory: &Memory, a: Window) -> u32 {
-    let open = if a.first == OPEN { OPEN } else { a.last };
-    let reversed = unless(a.first <= a.last, refusal::REVERSED);
-    let late = unless(a.last <= get(memory, book::CLOCK), refusal::LATE);
-    let rows = product(settings::ROW_WORDS, get(memory, book::TAGS)) <= a.row_words;
-    let timed = first(on_store(memory, a.length, open), first(reversed, late));
-    first(timed, unless(rows, refusal::SHORT_BUFFER))
+pub fn window(history: &History, a: Window) -> Answer {
+    // OPEN is the greatest word: the later of the two is OPEN if one is.
+    on_store(history, a.length, a.first.max(a.last))?;
+    unless(a.first <= a.last, Refusal::Reversed)?;
+    unless(a.last <= history.clock, Refusal::Late)?;
+    unless(
+        history.settings().row_words() <= a.row_words,
+        Refusal::ShortBuffer,
+    )
 }

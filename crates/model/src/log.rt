@@ -1,85 +1,137 @@
-// The plain log: the accepted changes of the present history in order, from 1, each of four words. The state at a second is what the log
-// comes to, played up to it. What is true of the whole history stands beside it.
-use crate::asked::*;
-use crate::book;
-use crate::memory::*;
-use crate::words::*;
+// The plain log: the accepted sets, clears and new readings of the present history in order. The state at a second is what the log comes to,
+// played up to it.
+use crate::asked::Action;
+use arrayvec::ArrayVec;
 
-// A set or a new reading stands since its second.
-pub const SECOND: u32 = 0;
+// A long history has 2,003 calls at most, and a short one fewer.
+const MOST: usize = 2304;
 
-const TAG: u32 = 1;
-
-// What the state has for the tag after the change: its number, or 0 after a clear.
-const LEFT: u32 = 2;
-
-pub const READING: u32 = 3;
-
-// How many words of the store this history lends; 0 if it is to run near the last second.
-pub const LENGTH: u32 = LOG + 9000;
-
-pub const LATE: u32 = LOG + 9001;
-
-// Words beyond the lent ones that are compared too.
-const SPARE: u32 = 32;
-
-// How many words of the store are compared: the lent ones and some more.
-pub fn extent(memory: &Memory) -> u32 {
-    sum(get(memory, LENGTH), SPARE)
+// What a set, a clear or a new reading left: a reading, or after a clear none.
+#[derive(Clone, Copy, Default)]
+struct Entry {
+    second: u32,
+    tag: u32,
+    reading: Option<u32>,
 }
 
-// Where change i is.
-pub fn change(i: u32) -> u32 {
-    sum(LOG, product(4, i))
+// A tag that stands, since the second of its last set or new reading.
+#[derive(Clone, Copy, PartialEq, Eq, Default)]
+pub struct Row {
+    pub tag: u32,
+    pub reading: u32,
+    pub since: u32,
 }
 
-// Enters an accepted change; a clock move only moves the clock, and what it writes is written over.
-pub fn enter(memory: &mut Memory, c: Change) {
-    let i = sum(get(memory, book::CHANGES), 1);
-    let set = unless(c.kind == CLEAR, 1);
-    let left = product(set, i);
-    put_four(memory, change(i), c.second, c.tag, left, c.reading);
-    put(memory, book::CLOCK, c.second);
-    if c.kind != ADVANCE {
-        put(memory, book::CHANGES, i);
-        add(memory, book::SETS, set);
+// One row for each tag that stands.
+pub type Rows = ArrayVec<Row, 64>;
+
+#[derive(Drop)]
+pub struct Log {
+    entries: ArrayVec<Entry, MOST>,
+}
+
+impl Row {
+    // Its words in a row buffer.
+    pub fn words(self) -> [u32; 3] {
+        [self.tag, self.reading, self.since]
     }
 }
 
-// Change i is of this tag, and was made by t.
-fn concerns(memory: &Memory, i: u32, tag: u32, t: u32) -> bool {
-    (at(memory, change(i), TAG) == tag) & (at(memory, change(i), SECOND) <= t)
+impl Entry {
+    // What stands after it.
+    fn row(self) -> Option<Row> {
+        self.reading.map(|reading| Row {
+            tag: self.tag,
+            reading,
+            since: self.second,
+        })
+    }
+
+    // It is of this tag, and was made by t.
+    fn concerns(self, tag: u32, t: u32) -> bool {
+        self.tag == tag && self.second <= t
+    }
 }
 
-// The state at t, of one tag: the number of the change that made it while the tag stands, else 0.
-pub fn state_at(memory: &Memory, tag: u32, t: u32) -> u32 {
-    let end = sum(get(memory, book::CHANGES), 1);
-    let mut left: u32 = 0;
-    for i in 1..end {
-        if concerns(memory, i, tag, t) {
-            left = at(memory, change(i), LEFT);
+impl Log {
+    pub fn new() -> Log {
+        Log {
+            entries: ArrayVec::new(),
         }
     }
-    left
-}
 
-// What a change left stood at some second from `first` on, if the tag's next change was made at `end`.
-fn stood(memory: &Memory, made: u32, first: u32, end: u32) -> bool {
-    (made != 0) & (at(memory, change(made), SECOND) < end) & (first < end)
-}
+    // Enters an accepted change; a clock move leaves no entry.
+    pub fn enter(&mut self, second: u32, action: Action) {
+        let (tag, reading) = match action {
+            Action::Set { tag, reading } | Action::Update { tag, reading } => (tag, Some(reading)),
+            Action::Clear { tag } => (tag, None),
+            Action::Advance => return,
+        };
+        if !self.entries.is_full() {
+            self.entries.push(Entry {
+                second,
+                tag,
+                reading,
+            });
+        }
+    }
 
-// The latest standing of one tag in a window: the number of the change that made it, or 0 if the tag stood at no second of the window.
-pub fn latest_in(memory: &Memory, tag: u32, first: u32, last: u32) -> u32 {
-    let end = sum(get(memory, book::CHANGES), 1);
-    let mut left: u32 = 0;
-    let mut latest: u32 = 0;
-    for i in 1..end {
-        if concerns(memory, i, tag, last) {
-            if stood(memory, left, first, at(memory, change(i), SECOND)) {
+    // How many sets and new readings there are.
+    pub fn sets(&self) -> usize {
+        self.entries
+            .iter()
+            .filter(|entry| entry.reading.is_some())
+            .count()
+    }
+
+    // The state at t, of one tag.
+    pub fn state_at(&self, tag: u32, t: u32) -> Option<Row> {
+        let made = self
+            .entries
+            .iter()
+            .rev()
+            .find(|entry| entry.concerns(tag, t));
+        made.and_then(|entry| entry.row())
+    }
+
+    // The latest standing of one tag in a window, if the tag stood at some second of it.
+    pub fn latest_in(&self, tag: u32, first: u32, last: u32) -> Option<Row> {
+        let mut left: Option<Row> = None;
+        let mut latest = None;
+        for entry in self
+            .entries
+            .iter()
+            .filter(|entry| entry.concerns(tag, last))
+        {
+            // What stood until this change stood in the window if it stood at all from `first` on.
+            if left.is_some_and(|row| row.since < entry.second && first < entry.second) {
                 latest = left;
             }
-            left = at(memory, change(i), LEFT);
+            left = entry.row();
+        }
+        left.or(latest)
+    }
+
+    // The state at t, by tag.
+    pub fn state(&self, tags: u32, t: u32) -> Rows {
+        rows(tags, |tag| self.state_at(tag, t))
+    }
+
+    // The same of a window.
+    pub fn window(&self, tags: u32, first: u32, last: u32) -> Rows {
+        rows(tags, |tag| self.latest_in(tag, first, last))
+    }
+}
+
+// The rows of the tags that have one.
+fn rows<F: Fn(u32) -> Option<Row>>(tags: u32, row_of: F) -> Rows
+    requires { F.IsAlwaysCallable row_of }
+{
+    let mut rows = Rows::new();
+    for row in (0..tags).filter_map(row_of) {
+        if !rows.is_full() {
+            rows.push(row);
         }
     }
-    if left == 0 { latest } else { left }
+    rows
 }

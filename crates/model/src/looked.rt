@@ -1,193 +1,145 @@
-// What a look-back left, against the log and the book. A finding is 0, or the number of what does not agree.
+// What a look-back left, against the log and the book.
 use crate::asked::LookBack;
-use crate::memory::*;
-use crate::refusal::UNSOUND;
+use crate::book::Book;
+use crate::buffer::{Buffer, is_marked_after_zeros, is_marked_from, marked};
+use crate::finding::{Finding, unless};
+use crate::history::History;
+use crate::log::Row;
+use crate::refusal::{Answer, Refusal};
 use crate::settings::ROW_WORDS;
-use crate::words::*;
-use crate::{book, log};
+use crate::words::OPEN;
 
-// Words of a buffer beyond the lent ones that are compared too.
-const SPARE: u32 = 8;
-
-const COUNTS: u32 = 10;
-
-const ROW: u32 = 11;
-
-const NOT_LISTED: u32 = 12;
-
-const TWICE: u32 = 13;
-
-const USEFUL: u32 = 14;
-
-const PAGES: u32 = 15;
-
-const AFTER: u32 = 16;
-
-const TOUCHED: u32 = 17;
-
-// The answer's six words: how many rows, pages and blocks of the list, and the page of each of the three levels.
-pub const ROW_COUNT: u32 = ANSWER;
-
-const PAGE_COUNT: u32 = ANSWER + 1;
-
-pub const LIST_COUNT: u32 = ANSWER + 2;
-
-const FIRST_PAGE: u32 = ANSWER + 3;
-
-// A buffer has zeros before word `zeros`, and from word `from` on marks, also some beyond the lent words.
-fn is_left(memory: &Memory, part: u32, zeros: u32, from: u32, lent: u32) -> bool {
-    let length = less(sum(lent, SPARE), from);
-    same(memory, part, ZEROS, zeros) & same(memory, sum(part, from), sum(MARKS, from), length)
+// The two buffers, and the answer's six words: how many rows, pages and blocks of the list, and the page of each of the three levels.
+#[derive(Clone, Copy)]
+pub struct Looked {
+    pub rows: Buffer,
+    pub list: Buffer,
+    pub answer: [u32; 6],
 }
 
-// An answered look-back has left the words after its rows and its list; the counts fit the lent words.
-fn rest_left(memory: &Memory, a: LookBack) -> u32 {
-    let used = product(ROW_WORDS, get(memory, ROW_COUNT));
-    let named = get(memory, LIST_COUNT);
-    let fit = (used <= a.row_words) & (named <= a.list_words);
-    let rows = is_left(memory, ROWS, 0, used, a.row_words);
-    let list = is_left(memory, LIST, 0, named, a.list_words);
-    first(unless(fit, COUNTS), unless(rows & list, AFTER))
-}
+// For each level, from the lowest, how many blocks lie under one page of the level below, and of it.
+const LEVELS: [(u32, u32); 3] = [(0, 16), (16, 256), (256, 4096)];
 
-// A refused one has left its answer's words and its buffers; but one that finds the store unsound fills both buffers with zeros.
-fn all_left(memory: &Memory, a: LookBack, filled: u32) -> u32 {
-    let row_zeros = product(filled, a.row_words);
-    let list_zeros = product(filled, a.list_words);
-    let rows = is_left(memory, ROWS, row_zeros, row_zeros, a.row_words);
-    let list = is_left(memory, LIST, list_zeros, list_zeros, a.list_words);
-    unless(rows & list & same(memory, ANSWER, MARKS, 6), TOUCHED)
-}
-
-// What is left by a look-back that was answered `got`.
-pub fn left(memory: &Memory, a: LookBack, got: u32) -> u32 {
-    if got == 0 {
-        return rest_left(memory, a);
-    }
-    all_left(memory, a, unless(got != UNSOUND, 1))
-}
-
-// Row i is this one.
-fn is_row(memory: &Memory, i: u32, tag: u32, reading: u32, since: u32) -> bool {
-    let row = sum(ROWS, product(ROW_WORDS, i));
-    (get(memory, row) == tag) & (at(memory, row, 1) == reading) & (at(memory, row, 2) == since)
-}
-
-// How many of the first rows are this one.
-fn rows_like(memory: &Memory, count: u32, tag: u32, reading: u32, since: u32) -> u32 {
-    let mut found: u32 = 0;
-    for i in 0..count {
-        if is_row(memory, i, tag, reading, since) {
-            found = sum(found, 1);
+impl Looked {
+    pub fn marked() -> Looked {
+        Looked {
+            rows: marked(),
+            list: marked(),
+            answer: marked(),
         }
     }
-    found
-}
 
-// How often the first words of the list name a block.
-fn times_listed(memory: &Memory, count: u32, n: u32) -> u32 {
-    let mut found: u32 = 0;
-    for i in 0..count {
-        if at(memory, LIST, i) == n {
-            found = sum(found, 1);
+    pub fn row_count(&self) -> u32 {
+        self.answer[0]
+    }
+
+    pub fn list_count(&self) -> u32 {
+        self.answer[2]
+    }
+
+    // The blocks that the list names.
+    fn listed(&self) -> &[u32] {
+        let count = (self.list_count() as usize).min(self.list.len());
+        &self.list[..count]
+    }
+
+    // What is left by a look-back, on any words: an answered one has left the words after its rows and its list, which fit the lent words. A
+    // refused one has left all; but one that finds the store unsound fills both buffers with zeros.
+    pub fn left(&self, a: LookBack, answer: Answer) -> Result<(), Finding> {
+        match answer {
+            Ok(()) => self.rest_left(a),
+            Err(Refusal::Unsound) => self.all_left(a.row_words, a.list_words),
+            Err(_) => self.all_left(0, 0),
         }
     }
-    found
-}
 
-// How many rows are due for a tag at t: one if it stands, with its reading and since when; more than there are if it has no such row, or several.
-fn rows_due(memory: &Memory, tag: u32, t: u32) -> u32 {
-    let made = log::state_at(memory, tag, t);
-    if made == 0 {
-        return 0;
+    fn rest_left(&self, a: LookBack) -> Result<(), Finding> {
+        let used = ROW_WORDS * self.row_count() as usize;
+        let named = self.list_count() as usize;
+        unless(
+            used <= a.row_words && named <= a.list_words,
+            Finding::Counts,
+        )?;
+        let left = is_marked_from(&self.rows, used) && is_marked_from(&self.list, named);
+        unless(left, Finding::After)
     }
-    let count = least(get(memory, ROW_COUNT), 640 / ROW_WORDS);
-    let reading = at(memory, log::change(made), log::READING);
-    let since = at(memory, log::change(made), log::SECOND);
-    let once = rows_like(memory, count, tag, reading, since) == 1;
-    if once { 1 } else { 65536 }
-}
 
-// The rows are the log's state at t, order aside.
-fn rows_agree(memory: &Memory, t: u32) -> u32 {
-    let tags = get(memory, book::TAGS);
-    let mut due: u32 = 0;
-    for tag in 0..tags {
-        due = sum(due, rows_due(memory, tag, t));
+    fn all_left(&self, row_zeros: usize, list_zeros: usize) -> Result<(), Finding> {
+        let buffers = is_marked_after_zeros(&self.rows, row_zeros)
+            && is_marked_after_zeros(&self.list, list_zeros);
+        unless(buffers && is_marked_from(&self.answer, 0), Finding::Touched)
     }
-    unless(due == get(memory, ROW_COUNT), ROW)
-}
 
-// The list names a block of the book, and once.
-fn is_listed(memory: &Memory, n: u32) -> bool {
-    let count = least(get(memory, LIST_COUNT), 640);
-    (n != 0) & (n <= get(memory, book::BLOCKS)) & (times_listed(memory, count, n) == 1)
-}
-
-// The list names blocks of the book, none twice.
-fn list_agrees(memory: &Memory) -> u32 {
-    let count = get(memory, LIST_COUNT);
-    for i in 0..count {
-        if !is_listed(memory, at(memory, LIST, i)) {
-            return NOT_LISTED;
+    // All that a look-back comes to after an honest history: what is left, and of an answer rows, list, limits and pages.
+    pub fn agrees(&self, history: &History, a: LookBack, answer: Answer) -> Result<(), Finding> {
+        self.left(a, answer)?;
+        if answer.is_err() {
+            return Ok(());
         }
+        self.rows_agree(history, a.second)?;
+        self.list_agrees(&history.book)?;
+        self.limits(&history.book, a.second)?;
+        self.pages_agree(&history.book, a.second)
     }
-    0
+
+    // How many rows are this one.
+    fn rows_like(&self, row: Row) -> usize {
+        let rows = self
+            .rows
+            .chunks_exact(ROW_WORDS)
+            .take(self.row_count() as usize);
+        rows.filter(|words| *words == row.words().as_slice())
+            .count()
+    }
+
+    // The rows are the log's state at t, order aside.
+    fn rows_agree(&self, history: &History, t: u32) -> Result<(), Finding> {
+        let due = history.log.state(history.settings().tags, t);
+        unless(due.len() == self.row_count() as usize, Finding::Row)?;
+        unless(
+            due.iter().all(|row| self.rows_like(*row) == 1),
+            Finding::Row,
+        )
+    }
+
+    // The list names blocks of the book, none twice.
+    fn list_agrees(&self, book: &Book) -> Result<(), Finding> {
+        let list = self.listed();
+        let times = |n: u32| list.iter().filter(|m| **m == n).count();
+        let named = list
+            .iter()
+            .all(|n| *n != 0 && *n <= book.opened() && times(*n) == 1);
+        unless(named, Finding::NotListed)
+    }
+
+    // The list has at most twice the blocks open at t, and those open, times q, are no more than the rows plus q.
+    fn limits(&self, book: &Book, t: u32) -> Result<(), Finding> {
+        let open = u64::from(book.open_at(t));
+        let useful = u64::from(book.settings.useful);
+        unless(u64::from(self.list_count()) <= 2 * open, Finding::Twice)?;
+        let enough = open * useful <= u64::from(self.row_count()) + useful;
+        unless(enough, Finding::Useful)
+    }
+
+    // The pages of the three levels, and how many they are.
+    fn pages_agree(&self, book: &Book, t: u32) -> Result<(), Finding> {
+        let due = LEVELS.map(|(fewer, blocks)| page_due(book, t, fewer, blocks));
+        let pages = due.map(|page| page.unwrap_or(OPEN));
+        unless(self.answer[3..] == pages[..], Finding::Pages)?;
+        let passed = due.iter().filter(|page| page.is_some()).count();
+        unless(self.answer[1] as usize == passed, Finding::Counts)
+    }
 }
 
-// "A block is open at t if opened ≤ t < closed." The list has at most twice the blocks open at t, and those open, times q, are no more than
-// the rows plus q.
-fn limits(memory: &Memory, t: u32) -> u32 {
-    let opened = book::count_by(memory, book::OPENED, t);
-    let open = less(opened, book::count_by(memory, book::CLOSED, t));
-    let useful = get(memory, book::USEFUL);
-    let twice = get(memory, LIST_COUNT) <= product(2, open);
-    let enough = product(open, useful) <= sum(get(memory, ROW_COUNT), useful);
-    first(unless(twice, TWICE), unless(enough, USEFUL))
-}
-
-// The page of a level that the last block opened by t leads through, counted from 0 in its level; OPEN if none is passed. Under one page of
-// it lie `blocks`, under one of the level below `fewer`. The top level is the lowest that has all blocks under one page.
-fn page_due(memory: &Memory, t: u32, fewer: u32, blocks: u32) -> u32 {
-    let all = get(memory, book::BLOCKS);
+// The page of a level that the last block opened by t leads through, counted from 0 in its level, if one is passed. Under one page of it lie
+// `blocks`, under one of the level below `fewer`. The top level is the lowest that has all blocks under one page.
+fn page_due(book: &Book, t: u32, fewer: u32, blocks: u32) -> Option<u32> {
+    let all = book.opened();
     if all <= fewer {
-        return OPEN;
+        return None;
     }
     if all <= blocks {
-        return 0;
+        return Some(0);
     }
-    let n = book::count_by(memory, book::OPENED, t);
-    if n == 0 {
-        return OPEN;
-    }
-    quotient(less(n, 1), blocks)
-}
-
-fn passed(page: u32) -> u32 {
-    unless(page == OPEN, 1)
-}
-
-// The pages of the three levels, and how many they are.
-fn pages_agree(memory: &Memory, t: u32) -> u32 {
-    let lowest = page_due(memory, t, 0, 16);
-    let middle = page_due(memory, t, 16, 256);
-    let highest = page_due(memory, t, 256, 4096);
-    let differs = (get(memory, FIRST_PAGE) ^ lowest)
-        | (get(memory, FIRST_PAGE + 1) ^ middle)
-        | (get(memory, FIRST_PAGE + 2) ^ highest);
-    let count = sum(passed(lowest), sum(passed(middle), passed(highest)));
-    let counted = get(memory, PAGE_COUNT) == count;
-    first(unless(differs == 0, PAGES), unless(counted, COUNTS))
-}
-
-// All that a look-back answered `got` comes to after an honest history: what is left, and of an answer rows, list, limits and pages.
-pub fn agrees(memory: &Memory, a: LookBack, got: u32) -> u32 {
-    let left = left(memory, a, got);
-    if got != 0 {
-        return left;
-    }
-    let t = a.second;
-    let named = first(rows_agree(memory, t), list_agrees(memory));
-    let counted = first(limits(memory, t), pages_agree(memory, t));
-    first(left, first(named, counted))
+    book.opened_by(t).checked_sub(1)?.checked_div(blocks)
 }

@@ -1,29 +1,73 @@
-// The numbers of document 01, "When a call is turned away", and of document 02, named as the register's own (layout/src/refusal.rt), and written anew so that
-// a wrong number there is found here.
-pub const SETTINGS: u32 = 1;
+// Why a call is turned away, with the paper's numbers. They are named as the register's own (layout/src/refusal.rt), and written anew so that a
+// wrong number there is found here.
 
-pub const SHORT_HEAD: u32 = 2;
+#[derive(Clone, Copy, PartialEq, Eq)]
+pub enum Refusal {
+    Settings = 1,
+    ShortHead = 2,
+    Head = 3,
+    ShortStore = 4,
+    TimeOpen = 5,
+    Early = 6,
+    Late = 7,
+    Tag = 8,
+    Standing = 9,
+    NotStanding = 10,
+    ShortBuffer = 11,
+    Unsound = 12,
+    OutOfBlocks = 13,
+    Reversed = 14,
+}
 
-pub const HEAD: u32 = 3;
+// A number that names no refusal.
+#[derive(Clone, Copy, PartialEq, Eq)]
+pub struct UnknownRefusal(pub u32);
 
-pub const SHORT_STORE: u32 = 4;
+// What a call answers.
+pub type Answer = Result<(), Refusal>;
 
-pub const TIME_OPEN: u32 = 5;
+impl From<Refusal> for u32 {
+    fn from(refusal: Refusal) -> u32 {
+        refusal as u32
+    }
+}
 
-pub const EARLY: u32 = 6;
+impl TryFrom<u32> for Refusal {
+    type Error = UnknownRefusal;
 
-pub const LATE: u32 = 7;
+    fn try_from(number: u32) -> Result<Refusal, UnknownRefusal> {
+        match number {
+            1 => Ok(Refusal::Settings),
+            2 => Ok(Refusal::ShortHead),
+            3 => Ok(Refusal::Head),
+            4 => Ok(Refusal::ShortStore),
+            5 => Ok(Refusal::TimeOpen),
+            6 => Ok(Refusal::Early),
+            7 => Ok(Refusal::Late),
+            8 => Ok(Refusal::Tag),
+            9 => Ok(Refusal::Standing),
+            10 => Ok(Refusal::NotStanding),
+            11 => Ok(Refusal::ShortBuffer),
+            12 => Ok(Refusal::Unsound),
+            13 => Ok(Refusal::OutOfBlocks),
+            14 => Ok(Refusal::Reversed),
+            _ => Err(UnknownRefusal(number)),
+        }
+    }
+}
 
-pub const TAG: u32 = 8;
+// The number of an answer: 0 for an accepted call.
+pub fn number(answer: Answer) -> u32 {
+    answer.err().map_or(0, u32::from)
+}
 
-pub const STANDING: u32 = 9;
+// What a call answered by a number: any that is none of the answers' is an error.
+pub type Called = Result<Answer, UnknownRefusal>;
 
-pub const NOT_STANDING: u32 = 10;
-
-pub const SHORT_BUFFER: u32 = 11;
-
-pub const UNSOUND: u32 = 12;
-
-pub const OUT_OF_BLOCKS: u32 = 13;
-
-pub const REVERSED: u32 = 14;
+pub fn numbered(number: u32) -> Called {
+    if number == 0 {
+        Ok(Ok(()))
+    } else {
+        Refusal::try_from(number).map(Err)
+    }
+}

@@ -1,0 +1,125 @@
+// The store that is lent to the register, with some words behind the lent ones, which are compared too; and the store as it should be.
+use crate::buffer;
+use crate::settings::Settings;
+use crate::words::marks;
+use arrayvec::ArrayVec;
+
+// More words than any history lends, and what lies behind them.
+const MOST: usize = 16384;
+
+const SPARE: usize = 32;
+
+// The word after the settings in a head: from here on a start leaves zeros.
+pub const AFTER_SETTINGS: usize = 5;
+
+pub type Words = ArrayVec<u32, MOST>;
+
+#[derive(Drop)]
+pub struct Store {
+    words: Words,
+    // The words as the last call had to leave them, or as the next call finds them.
+    kept: Words,
+    // The words as the history left them, while damaged copies of them are tried.
+    honest: Words,
+}
+
+fn copy(to: &mut [u32], from: &[u32]) {
+    for (word, source) in to.iter_mut().zip(from) {
+        *word = *source;
+    }
+}
+
+impl Store {
+    pub fn new() -> Store {
+        Store {
+            words: ArrayVec::new(),
+            kept: ArrayVec::new(),
+            honest: ArrayVec::new(),
+        }
+    }
+
+    // A store of marks, of which a history lends so many words.
+    pub fn begin(&mut self, length: usize) {
+        self.words.clear();
+        self.kept.clear();
+        self.honest.clear();
+        for mark in marks().take(length.saturating_add(SPARE)) {
+            if !self.words.is_full() && !self.kept.is_full() && !self.honest.is_full() {
+                self.words.push(mark);
+                self.kept.push(mark);
+                self.honest.push(mark);
+            }
+        }
+    }
+
+    pub fn words(&self) -> &[u32] {
+        self.words.as_slice()
+    }
+
+    pub fn kept(&self) -> &[u32] {
+        self.kept.as_slice()
+    }
+
+    // The words that a call is lent: as many as are asked for, or all that there are.
+    pub fn lent(&self, length: usize) -> &[u32] {
+        let end = length.min(self.words.len());
+        &self.words[..end]
+    }
+
+    pub fn lent_mut(&mut self, length: usize) -> &mut [u32] {
+        buffer::lent(self.words.as_mut_slice(), length)
+    }
+
+    pub fn put(&mut self, place: usize, word: u32) {
+        if let Some(known) = self.words.get_mut(place) {
+            *known = word;
+        }
+    }
+
+    // The store is kept as it is.
+    pub fn keep(&mut self) {
+        copy(self.kept.as_mut_slice(), self.words.as_slice());
+    }
+
+    // A start leaves zeros after the settings, and keeps what lies beyond the layout.
+    pub fn keep_started(&mut self, settings: Settings) {
+        for word in self
+            .kept
+            .iter_mut()
+            .take(settings.layout())
+            .skip(AFTER_SETTINGS)
+        {
+            *word = 0;
+        }
+    }
+
+    // From a word on the store is as it is kept.
+    pub fn is_kept_from(&self, from: usize) -> bool {
+        self.words.get(from..) == self.kept.get(from..)
+    }
+
+    // The history has ended: its words are honest.
+    pub fn end(&mut self) {
+        copy(self.honest.as_mut_slice(), self.words.as_slice());
+    }
+
+    // The words are those that the history left.
+    pub fn restore(&mut self) {
+        copy(self.words.as_mut_slice(), self.honest.as_slice());
+    }
+}
+
+// A word of a store, 0 behind its end.
+pub fn word(words: &[u32], place: usize) -> u32 {
+    words.get(place).copied().unwrap_or(0)
+}
+
+// The settings in a store's own head.
+pub fn settings(words: &[u32]) -> Settings {
+    Settings::new(
+        word(words, 1),
+        word(words, 2),
+        word(words, 3),
+        word(words, 4),
+    )
+}
