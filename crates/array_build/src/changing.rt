@@ -6,20 +6,19 @@ ghost use Rattle.array_build.specs.Kept.{Kept};
 use crate::closing;
 use crate::closing::Anew;
 use crate::taken::Record;
-use changes::Change;
-use decisions::Verdict;
 use layout::address::Address;
 use layout::head::Head;
+use layout::refusal::Refusal;
 use layout::{address, head, payload, place};
 use placing::records;
 
 // The next head, its clock at `second`, is stored.
-fn finish(store: &mut [u32], h: Head, second: u32) -> Change
+fn finish(store: &mut [u32], h: Head, second: u32) -> Head
     requires { Held h.settings store.old }
 {
     let next = h.at(second);
     head::write_cursor(store, next);
-    Change::Done(next)
+    next
 }
 
 // A new record.
@@ -56,38 +55,23 @@ fn clear_tag(store: &mut [u32], h: Head, second: u32, tag: u32) -> Head
 }
 
 // A tag is set with a reading.
-pub fn set(store: &mut [u32], second: u32, tag: u32, reading: u32) -> Change {
-    let verdict = decisions::decide_set(store, second, tag);
-    match verdict {
-        Verdict::Refused(n) => Change::Refused(n),
-        Verdict::Go(h) => {
-            let placed = place_new(store, h, second, tag, reading);
-            finish(store, placed, second)
-        }
-    }
+pub fn set(store: &mut [u32], second: u32, tag: u32, reading: u32) -> Result<Head, Refusal> {
+    let found = decisions::decide_set(store, second, tag)?;
+    let placed = place_new(store, found, second, tag, reading);
+    Ok(finish(store, placed, second))
 }
 
 // A tag's standing record ends.
-pub fn clear(store: &mut [u32], second: u32, tag: u32) -> Change {
-    let verdict = decisions::decide_clearing(store, second, tag, 0);
-    match verdict {
-        Verdict::Refused(n) => Change::Refused(n),
-        Verdict::Go(h) => {
-            let cleared = clear_tag(store, h, second, tag);
-            finish(store, cleared, second)
-        }
-    }
+pub fn clear(store: &mut [u32], second: u32, tag: u32) -> Result<Head, Refusal> {
+    let found = decisions::decide_clearing(store, second, tag, false)?;
+    let cleared = clear_tag(store, found, second, tag);
+    Ok(finish(store, cleared, second))
 }
 
 // A new reading: a clear and a set at the same second.
-pub fn update(store: &mut [u32], second: u32, tag: u32, reading: u32) -> Change {
-    let verdict = decisions::decide_clearing(store, second, tag, 1);
-    match verdict {
-        Verdict::Refused(n) => Change::Refused(n),
-        Verdict::Go(h) => {
-            let cleared = clear_tag(store, h, second, tag);
-            let renewed = place_new(store, cleared, second, tag, reading);
-            finish(store, renewed, second)
-        }
-    }
+pub fn update(store: &mut [u32], second: u32, tag: u32, reading: u32) -> Result<Head, Refusal> {
+    let found = decisions::decide_clearing(store, second, tag, true)?;
+    let cleared = clear_tag(store, found, second, tag);
+    let renewed = place_new(store, cleared, second, tag, reading);
+    Ok(finish(store, renewed, second))
 }

@@ -11,28 +11,26 @@ mod changing;
 mod closing;
 mod taken;
 
-use changes::Change;
 pub use changing::{clear, set, update};
+use layout::head::Head;
+use layout::refusal::Refusal;
 
 // The calls by plain numbers, for the counts of docs/BENCHMARKS.md (`array_build_c` exports them): 0 for an accepted call, else the refusal's number.
-fn number(c: Change) -> u32 {
-    match c {
-        Change::Done(_) => 0,
-        Change::Refused(n) => n,
+fn number(answer: Result<Head, Refusal>) -> u32 {
+    match answer {
+        Ok(_) => 0,
+        Err(reason) => reason.number(),
     }
 }
 
 pub fn array_build_set(store: &mut [u32], second: u32, tag: u32, reading: u32) -> u32 {
-    let change = set(store, second, tag, reading);
-    number(change)
+    number(set(store, second, tag, reading))
 }
 
 pub fn array_build_clear(store: &mut [u32], second: u32, tag: u32) -> u32 {
-    let change = clear(store, second, tag);
-    number(change)
+    number(clear(store, second, tag))
 }
 
 pub fn array_build_update(store: &mut [u32], second: u32, tag: u32, reading: u32) -> u32 {
-    let change = update(store, second, tag, reading);
-    number(change)
+    number(update(store, second, tag, reading))
 }

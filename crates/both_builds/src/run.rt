@@ -69,7 +69,7 @@ impl<'a> Run<'a> {
         }
         match one {
             Ok(_) => Ok(Ok(())),
-            Err(number) => numbered(number),
+            Err(refusal) => numbered(refusal.number()),
         }
     }
 

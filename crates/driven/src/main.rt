@@ -5,14 +5,15 @@
 mod script;
 mod shown;
 
-use changes::Change;
+use layout::head::Head;
+use layout::refusal::Refusal;
 use layout::settings::Settings;
 use model::out::print;
 use script::{Call, SCRIPT, Step, WORDS};
 use shown::{Shown, Told};
 
 // A call on the words that are lent.
-fn made(lent: &mut [u32], call: Call) -> Change {
+fn made(lent: &mut [u32], call: Call) -> Result<Head, Refusal> {
     match call {
         Call::Start { block, blocks } => changes::start(
             lent,

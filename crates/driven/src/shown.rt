@@ -1,11 +1,12 @@
 // How answers and stores are printed.
 use crate::script::WORDS;
-use changes::Change;
+use layout::head::Head;
+use layout::refusal::Refusal;
 use std::fmt;
 
 // An answer: the next head's own words, or the refusal.
 #[derive(Clone, Copy)]
-pub struct Told(pub Change);
+pub struct Told(pub Result<Head, Refusal>);
 
 // The head, the directory and the opened blocks of a store, a line each. With 16 tags and b = 4 the directory lies from word 4,384 on, and the
 // blocks, of 28 words, behind it.
@@ -19,7 +20,7 @@ struct Words<'a>(&'a [u32]);
 impl fmt::Display for Told {
     fn fmt<W: fmt::Write>(&self, f: &mut fmt::Formatter<W>) -> fmt::Result {
         match self.0 {
-            Change::Done(h) => {
+            Ok(h) => {
                 let k = h.cursor;
                 writeln!(
                     f,
@@ -27,7 +28,7 @@ impl fmt::Display for Told {
                     k.opened, k.clock, k.fill, k.child, k.right
                 )
             }
-            Change::Refused(n) => writeln!(f, "refused {n}"),
+            Err(refusal) => writeln!(f, "refused {}", refusal.number()),
         }
     }
 }

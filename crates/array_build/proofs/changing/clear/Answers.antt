@@ -1,5 +1,4 @@
 -- `changing::clear` is safe: a call that goes on has a store that is long enough, and a tag of its own.
-use mathlib.Core.Path.{sym, ◌∙◌}
 use Rattle.decisions.specs.ReadyLaws.{go_clear}
 use Rattle.array_build.specs.Kept.{kept_held}
 use Rattle.array_build.proofs.changing.clear.Goals as goal
@@ -7,7 +6,7 @@ use Rattle.array_build.proofs.changing.clear.Goals as goal
 pub clear_tag-cleared-requires : goal.clear_tag-cleared-requires
 clear_tag-cleared-requires c =
     let a = c.args in
-    let t = go_clear a.store.now a.second 0 a.tag (sym c.decide_clearing-verdict.ensures ∙ c.in-Go.is) in
+    let t = go_clear 0 a.tag c.in_ok-found.ensures in
     record { held = t.time.ready.held; tag_lt_tags = t.has_tag }
 
 pub finish-requires : goal.finish-requires
