@@ -74,12 +74,11 @@ fn blocks_agree(words: &[u32], book: &Book) -> Result<(), Finding> {
 
 // The directory has for each tag the place of its standing record, or 0.
 fn directory(words: &[u32], book: &Book) -> bool {
-    let places = book.places().iter().map(|place| place.unwrap_or(0));
-    words.get(DIRECTORY..).is_some_and(|words| words
-        .iter()
-        .copied()
-        .zip(places)
-        .all(|(word, place)| word == place))
+    let Some(words) = words.get(DIRECTORY..) else {
+        return false;
+    };
+    let mut pairs = words.iter().zip(book.places());
+    pairs.all(|(word, place)| *word == place.unwrap_or(0))
 }
 
 // The whole store against book and log.

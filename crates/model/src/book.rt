@@ -162,7 +162,8 @@ impl Book {
         }
     }
 
-    // Judge, for the former last block: the block that has just opened has room for all that stand.
+    // Judge, for the former last block: the block that has just opened has room for all that stand. (That a judged record may open a block, and
+    // an opened block judges, would call itself: so this stands beside `judge`.)
     fn judge_former(&mut self, n: u32, second: u32) {
         for place in self.close(n, second) {
             self.carry(place);

@@ -98,11 +98,11 @@ impl Log {
     pub fn latest_in(&self, tag: u32, first: u32, last: u32) -> Option<Row> {
         let mut left: Option<Row> = None;
         let mut latest = None;
-        for entry in self
+        let made = self
             .entries
             .iter()
-            .filter(|entry| entry.concerns(tag, last))
-        {
+            .filter(|entry| entry.concerns(tag, last));
+        for entry in made {
             // What stood until this change stood in the window if it stood at all from `first` on.
             if left.is_some_and(|row| row.since < entry.second && first < entry.second) {
                 latest = left;

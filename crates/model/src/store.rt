@@ -83,12 +83,8 @@ impl Store {
 
     // A start leaves zeros after the settings, and keeps what lies beyond the layout.
     pub fn keep_started(&mut self, settings: Settings) {
-        for word in self
-            .kept
-            .iter_mut()
-            .take(settings.layout())
-            .skip(AFTER_SETTINGS)
-        {
+        let end = settings.layout();
+        for word in self.kept.iter_mut().take(end).skip(AFTER_SETTINGS) {
             *word = 0;
         }
     }
