@@ -1,10 +1,10 @@
 -- WHAT LISTING A VISIT SAYS: the numbers of its blocks stand in the list, behind those listed before; and the rows that follow from a list.
 use Rattle.std.specs.Prelude.{◌≡◌, cond, List, [], ◌∷◌, ◌++◌, ℕ, ◌+◌, ◌-◌, ◌≤◌, ◌<◌, leb, length, Result, Ok, Err}
 use Rattle.std.proofs.lemmas.List.Edits.{sets}
-use Rattle.layout.specs.Fields.{closed_word}
+use Rattle.layout.specs.Fields.{closed_word, left_word, child_word}
 use Rattle.layout.specs.Parts.{block_word}
 use Rattle.calls.specs.Calls.{Row}
-use Rattle.calls.specs.Walk.{Reader, Walk, unsound, found, rows_of, visit}
+use Rattle.calls.specs.Walk.{Reader, Walk, unsound, found, and_then, rows_of, visit}
 use Rattle.timeslice.specs.declared.Unsound.{Unsound}
 use Rattle.timeslice.specs.declared.past.Past.{Past}
 use Rattle.timeslice.specs.Reading.{reader_of}
@@ -27,6 +27,16 @@ pub data Listed (list : List ℕ) (n : ℕ) : Walk → Result ℕ Unsound → Li
 pub record VisitListed (p : Past) (lower upper number : ℕ) (list : List ℕ) (n : ℕ) (a : Result ℕ Unsound) (list' : List ℕ) : Type 0 where
   pub told : (f : ℕ) → upper - lower < f → Listed list n (visit p.head.settings.block p.second (reader_of p) f lower upper number) a list'
 
+-- The two visits inside a listed block, of its last child and of its left.
+abbrev pub inside : Past → ℕ → ℕ → ℕ → ℕ → Walk
+inside p f lower upper n =
+    let block = (reader_of p).block n in
+    and_then (visit p.head.settings.block p.second (reader_of p) f n upper (block_word block child_word))
+    (visit p.head.settings.block p.second (reader_of p) f lower n (block_word block left_word))
+
+pub record InsideListed (p : Past) (lower upper number : ℕ) (list : List ℕ) (n : ℕ) (a : Result ℕ Unsound) (list' : List ℕ) : Type 0 where
+  pub told : (f : ℕ) → upper - lower ≤ f → Listed list n (inside p f lower upper number) a list'
+
 -- ---- what is asked
 -- room to list a visit between two numbers
 pub record ListRoom (p : Past) (lower upper n : ℕ) (list : List ℕ) : Type 0 where
@@ -34,3 +44,11 @@ pub record ListRoom (p : Past) (lower upper n : ℕ) (list : List ℕ) : Type 0 
   pub gap : lower < upper
   pub known : upper ≤ p.head.settings.blocks + 1
   pub blocks : n + upper ≤ p.head.settings.blocks + 1 + lower
+
+-- room to list the visits inside a block, which is the last that is listed
+pub record InsideRoom (p : Past) (lower upper number n : ℕ) (list : List ℕ) : Type 0 where
+  pub long : p.head.settings.blocks ≤ length list
+  pub low : lower < number
+  pub high : number < upper
+  pub known : upper ≤ p.head.settings.blocks + 1
+  pub blocks : n + upper ≤ p.head.settings.blocks + 2 + lower

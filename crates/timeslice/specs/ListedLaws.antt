@@ -1,8 +1,8 @@
 -- The listing's answers: each way out of the code lists the visit as it is defined; what is listed leaves room; and with the rows that follow from the
 -- list the whole visit is told.
-use Rattle.std.specs.Prelude.{◌≡◌, ◌⊎◌, List, [], ◌∷◌, ◌++◌, ℕ, suc, ◌+◌, ◌-◌, ◌≤◌, ◌<◌, length, take, drop, Result, Ok, Err}
+use Rattle.std.specs.Prelude.{◌≡◌, List, [], ◌∷◌, ◌++◌, ℕ, suc, ◌+◌, ◌-◌, ◌≤◌, ◌<◌, length, take, drop, Result, Ok, Err}
 use Rattle.std.proofs.Math.Path.{refl}
-use Rattle.std.proofs.Common.{sym, ◌∙◌, inl, inr, append_assoc, length-append, length-set, length-take, take_at, drop_at}
+use Rattle.std.proofs.Common.{sym, ◌∙◌, append_assoc, length-append, length-set, length-take, take_at, drop_at}
 use native.Mathlib.Omega.{arith}
 use Rattle.std.proofs.Math.ListN.{set}
 use Rattle.std.proofs.lemmas.List.Edits.{sets, sets-eq}
@@ -22,7 +22,7 @@ use Rattle.timeslice.specs.Reading.{reader_of}
 use Rattle.timeslice.specs.Taken.{Takes, RowBuffer}
 use Rattle.timeslice.specs.Told.{WalkTold, bad, VisitTold, Gap}
 use Rattle.timeslice.specs.ToldLaws.{taken_all, taken_many}
-use Rattle.timeslice.specs.Listed.{rows_in, Listed, every, none, VisitListed, ListRoom}
+use Rattle.timeslice.specs.Listed.{rows_in, Listed, every, none, VisitListed, ListRoom, InsideListed, InsideRoom}
 use Rattle.timeslice.specs.VisitLaws.{with_fuel, visit_short, short_found, visit_follows, follows_rows, follows_all}
 
 -- ---- one walk listed after another
@@ -55,12 +55,15 @@ module _ {p : Past} {lower upper k : ℕ} {list : List ℕ} {n : ℕ} where
   visit_none e = enough (λ f q. rw (eq-eqb k 0 e) (every {r = []} {l = []} {m = n} (omega arith) refl))
 
   -- or it lies outside of the two numbers,
-  pub visit_outside : (k ≡ 0 → ⊥) → (k ≤ lower) ⊎ ((lower < k) × (upper ≤ k)) → VisitListed p lower upper k list n (Err (record {})) list
+  pub visit_low : (k ≡ 0 → ⊥) → k ≤ lower → VisitListed p lower upper k list n (Err (record {})) list
   unfolding visit
-  visit_outside z (inl e) = enough (λ f q. rw (ne_eqb k 0 z, le-leb k lower e) none)
-  visit_outside z (inr (e, g)) = enough (λ f q. rw (ne_eqb k 0 z, lt-leb k lower e, le-leb upper k g) none)
+  visit_low z e = enough (λ f q. rw (ne_eqb k 0 z, le-leb k lower e) none)
 
   module _ (e₂ : lower < k) where
+    pub visit_high : upper ≤ k → VisitListed p lower upper k list n (Err (record {})) list
+    unfolding visit
+    visit_high e = enough (λ f q. rw (ne_eqb k 0 (λ z. omega arith), lt-leb k lower e₂, le-leb upper k e) none)
+
     module _ (e₃ : k < upper) {block : List ℕ} (is : block ≡ (reader_of p).block k) {closed : ℕ} (c : closed ≡ block_word block closed_word) where
       -- or it closed by then,
       pub visit_ended : closed ≤ p.second → VisitListed p lower upper k list n (Ok (n + 1)) (set list n k)
@@ -70,41 +73,47 @@ module _ {p : Past} {lower upper k : ℕ} {list : List ℕ} {n : ℕ} where
           enough (λ f q.
           rw (ne_eqb k 0 (λ z. omega arith), lt-leb k lower e₂, lt-leb upper k e₃, le-leb _ _ h) (every {r = []} {l = k ∷ []} refl refl))
 
-      -- or the visit goes on inside: of its last child,
-      module _ (g : p.second < closed) {child left : ℕ} (d : child ≡ block_word block child_word) (b : left ≡ block_word block left_word)
-          {a : Result ℕ Unsound} {list₁ : List ℕ} (first : VisitListed p k upper child (set list n k) (n + 1) a list₁) where
-        inside : {a' : Result ℕ Unsound} {list₂ : List ℕ}
-            → ((f : ℕ) → upper - lower ≤ f → Listed (set list n k) (n + 1) (and_then (go p f k upper child) (go p f lower k left)) a' list₂)
-            → VisitListed p lower upper k list n a' list₂
-        unfolding visit
-        inside h = enough (λ f q.
-            let here : Listed list n (found (rows_of p.head.settings.block p.second ((reader_of p).block k)) (k ∷ [])) (Ok (n + 1)) (set list n k) =
-            every {l = k ∷ []} refl refl in
-            let z : p.second < block_word ((reader_of p).block k) closed_word = rw (word_is closed_word is c) at g in
-            rw (ne_eqb k 0 (λ z. omega arith), lt-leb k lower e₂, lt-leb upper k e₃, lt-leb _ _ z, ← word_is child_word is d, ← word_is left_word is b)
-            (listed_then here (h f q)))
+      -- or the visit goes on inside.
+      pub visit_goes : p.second < closed → {a : Result ℕ Unsound} {list' : List ℕ} → InsideListed p lower upper k (set list n k) (n + 1) a list'
+          → VisitListed p lower upper k list n a list'
+      unfolding visit
+      visit_goes g inside =
+          let b = p.head.settings.block in
+          let here : Listed list n (found (rows_of b p.second ((reader_of p).block k)) (k ∷ [])) (Ok (n + 1)) (set list n k) = every {l = k ∷ []} refl refl in
+          let h : p.second < block_word ((reader_of p).block k) closed_word = rw (word_is closed_word is c) at g in
+          enough (λ f q.
+          rw (ne_eqb k 0 (λ z. omega arith), lt-leb k lower e₂, lt-leb upper k e₃, lt-leb _ _ h) (listed_then here (inside.told f q)))
 
-        -- which stops it,
-        pub inside_stops : {u : Unsound} → a ≡ Err u → VisitListed p lower upper k list n (Err u) list₁
-        inside_stops e = inside (λ f q. listed_stop (go p f lower k left) (rw e at (first.told f (omega arith))))
+-- ---- the visits inside block k: of its last child,
+module _ {p : Past} {lower upper k : ℕ} {list : List ℕ} {n : ℕ} (room : InsideRoom p lower upper k n list) {block : List ℕ}
+    (is : block ≡ (reader_of p).block k) {child : ℕ} (c : child ≡ block_word block child_word)
+    {a : Result ℕ Unsound} {list₁ : List ℕ} (first : VisitListed p k upper child list n a list₁) where
+  child_listed : (f : ℕ) → upper - lower ≤ f → Listed list n (go p f k upper (block_word ((reader_of p).block k) child_word)) a list₁
+  child_listed f h = rw (word_is child_word is c) at (first.told f (omega (arith, room.low, room.high)))
 
-        module _ {m : ℕ} (e : a ≡ Ok m) where
-          -- or leaves room for that of its left,
-          pub left_room : ListRoom p lower upper n list → length list₁ ≡ length (set list n k) → ListRoom p lower k m list₁
-          left_room room same =
-              let (r, l, w, e', q) = listed_found (rw e at (first.told (suc (upper - k)) (omega arith))) in
-              let short = short_found (visit_short p.head.settings.block p.second (reader_of p) (suc (upper - k)) k upper child e₃) w in
-              record {
-                long = omega (arith, room.long, simp length-set at same);
-                gap = e₂;
-                known = omega (arith, room.known);
-                blocks = omega (arith, room.blocks);
-              }
+  -- which stops them,
+  pub inside_stops : {u : Unsound} → a ≡ Err u → InsideListed p lower upper k list n (Err u) list₁
+  inside_stops e = record { told = λ f h. listed_stop (go p f lower k (block_word ((reader_of p).block k) left_word)) (rw e at (child_listed f h)) }
 
-          -- which comes next.
-          pub inside_goes : {a' : Result ℕ Unsound} {list₂ : List ℕ} → VisitListed p lower k left list₁ m a' list₂
-              → VisitListed p lower upper k list n a' list₂
-          inside_goes second = inside (λ f q. listed_then (rw e at (first.told f (omega arith))) (second.told f (omega arith)))
+  -- or leaves room for that of its left,
+  module _ {m : ℕ} (e : a ≡ Ok m) where
+    pub left_room : length list₁ ≡ length list → ListRoom p lower k m list₁
+    left_room same =
+        let (r, l, w, e', q) = listed_found (rw e at (first.told (suc (upper - k)) (omega arith))) in
+        let short = short_found (visit_short p.head.settings.block p.second (reader_of p) (suc (upper - k)) k upper child room.high) w in
+        record {
+          long = omega (arith, room.long);
+          gap = room.low;
+          known = omega (arith, room.known, room.high);
+          blocks = omega (arith, room.blocks);
+        }
+
+    -- which comes next.
+    pub inside_goes : {left : ℕ} → left ≡ block_word block left_word → {a' : Result ℕ Unsound} {list₂ : List ℕ} → VisitListed p lower k left list₁ m a' list₂
+        → InsideListed p lower upper k list n a' list₂
+    inside_goes d second = record {
+      told = λ f h. listed_then (rw e at (child_listed f h)) (rw (word_is left_word is d) at (second.told f (omega (arith, room.low, room.high))));
+    }
 
 -- ---- the whole visit
 -- the part of the list that a visit listed, whose rows taken tell the visit

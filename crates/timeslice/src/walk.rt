@@ -4,7 +4,7 @@ ghost use Rattle.layout.specs.Address.{Numbered};
 ghost use Rattle.calls.specs.Walk.{neighbour as neighbour_of};
 ghost use Rattle.timeslice.specs.Reading.{reader_of};
 ghost use Rattle.timeslice.specs.Told.{VisitTold, PathTold, Climbs, Space, Gap, Reach, Under};
-ghost use Rattle.timeslice.specs.Listed.{VisitListed, ListRoom};
+ghost use Rattle.timeslice.specs.Listed.{VisitListed, ListRoom, InsideListed, InsideRoom};
 
 use crate::past::Past;
 use crate::{Counts, Unsound};
@@ -21,8 +21,10 @@ pub struct PathBlock {
 // (The two buffers and what is counted in them stay three arguments: a struct of the two would hold two `&mut`, and each contract would have to say that
 // it still holds the same two.)
 impl Past<'_> {
-    // A visit of a link: 0, which ends it, or a block strictly between lower and upper. The block is listed, and if it closes after the second, its last
-    // child is visited, then its left. The gap of the two numbers falls at each. It answers how many blocks are listed then.
+    // A visit of a link: 0, which ends it, or a block strictly between lower and upper. The block is listed, and if it closes after the second, the visit
+    // goes on inside it. It answers how many blocks are listed then. (Compiled into its callers, since most links lead nowhere or to a closed block.)
+    #[cycle(visit)]
+    #[inline(always)]
     fn visit(
         &self,
         lower: u32,
@@ -34,20 +36,42 @@ impl Past<'_> {
         requires { ListRoom self.now lower upper listed list.old }
         ensures { VisitListed self.now lower upper number list.old listed result list.new }
     {
-        if number == 0 {
-            return Ok(listed);
+        if number <= lower {
+            return if number == 0 {
+                Ok(listed)
+            } else {
+                Err(Unsound)
+            };
         }
-        if number <= lower || upper <= number {
+        if upper <= number {
             return Err(Unsound);
         }
-        list[listed as usize] = number;
         let block = parts::block(self.store, self.head.settings, number);
-        if parts::block_word(block, fields::CLOSED) <= self.second {
+        let closed = parts::block_word(block, fields::CLOSED);
+        list[listed as usize] = number;
+        if closed <= self.second {
             return Ok(listed + 1);
         }
+        self.visit_inside(lower, upper, number, list, listed + 1)
+    }
+
+    // The visits inside a listed block: of its last child, then of its left. The gap of the two numbers falls at each.
+    #[cycle(visit)]
+    fn visit_inside(
+        &self,
+        lower: u32,
+        upper: u32,
+        number: u32,
+        list: &mut [u32],
+        listed: u32,
+    ) -> Result<u32, Unsound>
+        requires { InsideRoom self.now lower upper number listed list.old }
+        ensures { InsideListed self.now lower upper number list.old listed result list.new }
+    {
+        let block = parts::block(self.store, self.head.settings, number);
         let child = parts::block_word(block, fields::CHILD);
         let left = parts::block_word(block, fields::LEFT);
-        let after = self.visit(number, upper, child, list, listed + 1)?;
+        let after = self.visit(number, upper, child, list, listed)?;
         self.visit(lower, number, left, list, after)
     }
 
@@ -107,9 +131,9 @@ impl Past<'_> {
         if number <= up {
             return Err(Unsound);
         }
+        let next = self.neighbour(number);
         list[n.blocks as usize] = number;
         let given = self.take_rows(block, rows, n.rows)?;
-        let next = self.neighbour(number);
         let counts = Counts {
             rows: given,
             blocks: n.blocks + 1,

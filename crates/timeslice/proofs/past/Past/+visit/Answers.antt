@@ -1,35 +1,43 @@
--- `visit` meets its contract: each way out of a block is a law of visits.
+-- `visit` and `visit_inside` meet their contracts: each way out of a link, and of the two visits inside a block, is a law of visits.
 use Rattle.std.proofs.Common.{arith}
 use Rattle.queries.specs.BlockLaws.{block_is}
 use Rattle.timeslice.specs.Reading.{unsound_is}
-use Rattle.timeslice.specs.ListedLaws.{visit_none, visit_outside, visit_ended, inside_stops, left_room, inside_goes}
+use Rattle.timeslice.specs.ListedLaws.{visit_none, visit_low, visit_high, visit_ended, visit_goes, inside_stops, left_room, inside_goes}
 use Rattle.timeslice.proofs.past.Past.+visit.Goals as goal
 
-pub returns-then-number-eq0 : goal.returns-then-number-eq0
-returns-then-number-eq0 t c = visit_none c.if-number-eq0.true
+pub visit-returns-then-number-eq0 : goal.visit-returns-then-number-eq0
+visit-returns-then-number-eq0 t c = visit_none c.if-number-eq0.true
 
-pub returns-then-number-lower : goal.returns-then-number-lower
-returns-then-number-lower t c = visit_outside c.if-number-eq0.false c.then-number-lower.either
+pub visit-returns-else-number-eq0 : goal.visit-returns-else-number-eq0
+visit-returns-else-number-eq0 t c = visit_low c.if-number-eq0.false c.if-number-lower.true
 
-pub returns-then-block_word-self : goal.returns-then-block_word-self
-returns-then-block_word-self t c =
+pub visit-returns-then-upper-number : goal.visit-returns-then-upper-number
+visit-returns-then-upper-number t c = visit_high c.if-number-lower.false c.if-upper-number.true
+
+pub visit-returns-then-closed-self : goal.visit-returns-then-closed-self
+visit-returns-then-closed-self t c =
     visit_ended c.if-number-lower.false c.if-upper-number.false (block_is c.args.self.now.readable c.block-block.ensures)
-    c.block_word.ensures c.if-block_word-self.true
+    c.block_word-closed.ensures c.if-closed-self.true
 
-pub returns-in_err-after : goal.returns-in_err-after
-returns-in_err-after t c =
+pub visit-returns : goal.visit-returns
+visit-returns t c =
+    visit_goes c.if-number-lower.false c.if-upper-number.false (block_is c.args.self.now.readable c.block-block.ensures)
+    c.block_word-closed.ensures c.if-closed-self.false c.visit_inside.ensures
+
+-- ---- inside
+pub visit_inside-returns-in_err-after : goal.visit_inside-returns-in_err-after
+visit_inside-returns-in_err-after t c =
     rw (unsound_is c.from_residual.ensures.0)
-    (inside_stops c.if-number-lower.false c.if-upper-number.false (block_is c.args.self.now.readable c.block-block.ensures) c.block_word.ensures
-    c.if-block_word-self.false c.block_word-child.ensures c.block_word-left.ensures c.visit.ensures c.in_err-after.was)
+    (inside_stops c.requires (block_is c.args.self.now.readable c.block-block.ensures) c.block_word-child.ensures c.visit.ensures c.in_err-after.was)
 
-pub visit-requires-2 : goal.visit-requires-2
-visit-requires-2 t c = (
-  omega (arith, c.decreases, c.if-number-lower.false, c.if-upper-number.false),
-  left_room c.if-number-lower.false c.if-upper-number.false (block_is c.args.self.now.readable c.block-block.ensures) c.block_word.ensures
-      c.if-block_word-self.false c.block_word-child.ensures c.block_word-left.ensures c.visit.ensures c.in_ok-after.was c.requires c.visit.auto.list,
+pub visit_inside-visit-requires-2 : goal.visit_inside-visit-requires-2
+visit_inside-visit-requires-2 t c = (
+  omega (arith, c.decreases, c.requires.low, c.requires.high),
+  left_room c.requires (block_is c.args.self.now.readable c.block-block.ensures) c.block_word-child.ensures c.visit.ensures c.in_ok-after.was
+      c.visit.auto.list,
 )
 
-pub returns : goal.returns
-returns t c =
-    inside_goes c.if-number-lower.false c.if-upper-number.false (block_is c.args.self.now.readable c.block-block.ensures) c.block_word.ensures
-    c.if-block_word-self.false c.block_word-child.ensures c.block_word-left.ensures c.visit.ensures c.in_ok-after.was c.visit-2.ensures
+pub visit_inside-returns : goal.visit_inside-returns
+visit_inside-returns t c =
+    inside_goes c.requires (block_is c.args.self.now.readable c.block-block.ensures) c.block_word-child.ensures c.visit.ensures c.in_ok-after.was
+    c.block_word-left.ensures c.visit-2.ensures
