@@ -33,17 +33,17 @@ pub record LookedBack (ws : List ℕ) (t : ℕ) (rows list : List ℕ) (r : Resu
 -- ---- the parts
 -- what the walk over the words says: its rows and list at the start of the buffers, or that it is unsound, the buffers being anything
 pub data WalkSays (p : Past) (rows list : List ℕ) : Result Slice Unsound → List ℕ → List ℕ → Type 0 where
-  whole : {r : List Row} {l : List ℕ} {ps : List Pass} {s : Slice} {rows' list' : List ℕ} → look_at p.store.now p.second ≡ looked r l ps
+  whole : {r : List Row} {l : List ℕ} {ps : List Pass} {s : Slice} {rows' list' : List ℕ} → look_at p.opened.store.now p.second ≡ looked r l ps
       → s ≡ slice_of (view_of r l ps) → rows' ≡ written (row_words r) rows → list' ≡ written l list → WalkSays p rows list (Ok s) rows' list'
-  broken : {e : Unsound} {rows' list' : List ℕ} → look_at p.store.now p.second ≡ unsoundly → WalkSays p rows list (Err e) rows' list'
+  broken : {e : Unsound} {rows' list' : List ℕ} → look_at p.opened.store.now p.second ≡ unsoundly → WalkSays p rows list (Err e) rows' list'
 
 -- a look-back to which no refusal but 12 applies
 pub record Answers (p : Past) (rows list : List ℕ) (r : Result Slice Refusal) (rows' list' : List ℕ) : Type 0 where
-  pub answer : Says (seen rows list (look_at p.store.now p.second)).answer r
-  pub row_words_lem : rows' ≡ (seen rows list (look_at p.store.now p.second)).rows
-  pub list_words : list' ≡ (seen rows list (look_at p.store.now p.second)).list
+  pub answer : Says (seen rows list (look_at p.opened.store.now p.second)).answer r
+  pub row_words_lem : rows' ≡ (seen rows list (look_at p.opened.store.now p.second)).rows
+  pub list_words : list' ≡ (seen rows list (look_at p.opened.store.now p.second)).list
 
 -- what its own tests come to before the walk, for buffers of these lengths: the first of 5, 7 and 11 that applies; or both are long enough
 pub record SliceRefusal (p : Past) (rows list : ℕ) (r : Result Unit Refusal) : Type 0 where
-  pub own : OwnRefusal (λ unsound. look_back_own p.head p.second rows list unsound)
-      ((row_len * p.head.settings.tags ≤ rows) × (p.head.settings.blocks ≤ list)) r
+  pub own : OwnRefusal (λ unsound. look_back_own p.opened.head p.second rows list unsound)
+      ((row_len * p.opened.head.settings.tags ≤ rows) × (p.opened.head.settings.blocks ≤ list)) r

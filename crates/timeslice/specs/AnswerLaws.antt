@@ -1,5 +1,5 @@
 -- The whole look-back's answers: the refusals in their order, and what search and path come to.
-use Rattle.std.specs.Prelude.{◌≡◌, Bool, true, false, cond, ◌||◌, List, ℕ, suc, ◌≤◌, eqb, length, get_or, Result, Ok, Err}
+use Rattle.std.specs.Prelude.{◌≡◌, Bool, true, false, cond, ◌||◌, List, ℕ, suc, ◌≤◌, eqb, length, Result, Ok, Err}
 use Rattle.std.proofs.Math.Path.{refl}
 use Rattle.std.proofs.Common.{sym, ap, ◌∙◌, arith, lt-ltb, le-ltb}
 use Rattle.layout.specs.declared.refusal.Refusal.{Refusal}
@@ -9,11 +9,11 @@ use Rattle.layout.specs.RefusalNumbers.{UNSOUND, number}
 use Rattle.layout.specs.Head.{head_of}
 use Rattle.calls.specs.Calls.{Row, Refused}
 use Rattle.calls.specs.Walk.{Reader, Finding, found, Pass, Walk, unsound, path, search, unsoundly, looked, within, look}
-use Rattle.calls.specs.Refusals.{Test, refusal, look_back_own, look_back_tests}
+use Rattle.calls.specs.Refusals.{refusal, look_back_own, look_back_tests}
 use Rattle.calls.specs.LookBack.{look_back, look_at, seen, view_of, row_words, zeros, is_unsound}
 use Rattle.queries.specs.declared.opened.Opened.{Opened}
 use Rattle.queries.specs.Opens.{Opens}
-use Rattle.queries.specs.OpenLaws.{shut_by, own_free, own_refused, own_passed}
+use Rattle.queries.specs.OpenLaws.{shut_by, same_words, own_free, own_refused, own_passed}
 use Rattle.queries.specs.RowLaws.{words_length, sets_written}
 use Rattle.timeslice.specs.declared.Unsound.{Unsound}
 use Rattle.timeslice.specs.declared.Counts.{Counts}
@@ -57,19 +57,24 @@ module _ (ws : List ℕ) (t : ℕ) (rows list : List ℕ) where
       refused_is (z.0 (look_back_own (head_of ws) t (length rows) (length list) (is_unsound (look_at ws t)))) z.1
 
 -- or one of its own tests applies,
-module _ (p : Past) {o : Opened} (opens : Opens p.store.now (Ok o)) (same : p.head ≡ o.head) {rows list : List ℕ} where
-  pub slice_refused : {e : Refusal} → SliceRefusal p (length rows) (length list) (Err e) → LookedBack p.store.now p.second rows list (Err e) rows list
+module _ {ws : List ℕ} {o : Opened} (opens : Opens ws (Ok o)) (t : ℕ) {rows list : List ℕ} where
+  pub slice_refused : {e : Refusal} → SliceRefusal (record { opened = o; second = t }) (length rows) (length list) (Err e) → LookedBack ws t rows list (Err e) rows list
   slice_refused w =
-      let q = own_refused (λ (x : Head) (u : Bool). look_back_own x p.second (length rows) (length list) u) opens (is_unsound (look_at p.store.now p.second)) (rw same at w.own) in
-      refused_is p.store.now p.second rows list q.0 q.1
+      let q = own_refused (λ (x : Head) (u : Bool). look_back_own x t (length rows) (length list) u) opens (is_unsound (look_at ws t)) w.own in
+      refused_is ws t rows list q.0 q.1
 
   -- or none does, and the walk may run: its answer is the call's.
-  pub slice_answers : {r : Result Slice Refusal} {rows' list' : List ℕ} → SliceRefusal p (length rows) (length list) (Ok tt) → Answers p rows list r rows' list'
-      → LookedBack p.store.now p.second rows list r rows' list'
+  pub slice_answers : {r : Result Slice Refusal} {rows' list' : List ℕ} → SliceRefusal (record { opened = o; second = t }) (length rows) (length list) (Ok tt)
+      → Answers (record { opened = o; second = t }) rows list r rows' list' → LookedBack ws t rows list r rows' list'
   slice_answers w a =
-      let e = seen_is p.store.now p.second rows list
-      (own_passed (λ (x : Head) (u : Bool). look_back_own x p.second (length rows) (length list) u) opens (is_unsound (look_at p.store.now p.second)) (own_free (rw same at w.own))) in
-      record { answer = rw e a.answer; row_words_lem = a.row_words_lem ∙ rw e; list_words = a.list_words ∙ rw e }
+      let same = same_words opens in
+      let e = seen_is ws t rows list
+      (own_passed (λ (x : Head) (u : Bool). look_back_own x t (length rows) (length list) u) opens (is_unsound (look_at ws t)) (own_free w.own)) in
+      record {
+        answer = rw e (rw same at a.answer);
+        row_words_lem = (rw same at a.row_words_lem) ∙ rw e;
+        list_words = (rw same at a.list_words) ∙ rw e;
+      }
 
 pub buffers_ready : {p : Past} {rows list : List ℕ} → SliceRefusal p (length rows) (length list) (Ok tt) → Buffers p rows list
 buffers_ready w = let q = own_free w.own in record { long_rows = q.room.0; long_list = q.room.1 }
@@ -115,15 +120,15 @@ abbrev none_yet : ℕ → Counts
 none_yet read = record { rows = 0; pages = read; blocks = 0 }
 
 module _ (p : Past) where
-  look_is : look_at p.store.now p.second ≡ look p.head.settings.block p.head.settings.tags p.head.cursor.opened p.second (reader_of p)
+  look_is : look_at p.opened.store.now p.second ≡ look p.opened.head.settings.block p.opened.head.settings.tags p.opened.head.cursor.opened p.second (reader_of p)
   unfolding look_at
-  look_is = rw p.readable.is
+  look_is = rw p.opened.readable.is
 
   module _ {x : Result PathStart Unsound} (search_says : x ≡ searched p) {rows list : List ℕ} where
     pub slices_nowhere : {u : Unsound} → x ≡ Err u → WalkSays p rows list (Err u) rows list
     unfolding look
     slices_nowhere n =
-        let q : search p.second p.head.cursor.opened (reader_of p) ≡ unsound = searched_nowhere _ (sym search_says ∙ n) in
+        let q : search p.second p.opened.head.cursor.opened (reader_of p) ≡ unsound = searched_nowhere _ (sym search_says ∙ n) in
         broken (look_is ∙ rw q)
 
     module _ {s : PathStart} (n : x ≡ Ok s) (b : Buffers p rows list) where
@@ -133,28 +138,28 @@ module _ (p : Past) where
           record {
             buffers = b;
             fits = omega arith;
-            known = omega (arith, g.1, p.readable.sound.opened);
-            blocks = omega (arith, g.1, p.readable.sound.opened);
+            known = omega (arith, g.1, p.opened.readable.sound.opened);
+            blocks = omega (arith, g.1, p.opened.readable.sound.opened);
           }
 
       module _ {a : Result Counts Unsound} {rows' list' : List ℕ} (told : PathTold p s.block rows list (none_yet s.read) a rows' list') where
         pub slices_unsound : {u : Unsound} → a ≡ Err u → WalkSays p rows list (Err u) rows' list'
         unfolding look
         slices_unsound e =
-            let (ps, q, i) = searched_at (search p.second p.head.cursor.opened (reader_of p)) (sym search_says ∙ n) in
+            let (ps, q, i) = searched_at (search p.second p.opened.head.cursor.opened (reader_of p)) (sym search_says ∙ n) in
             broken (look_is ∙ rw q (told_unsound ps refl (rw e at (told.told (suc s.block) (omega arith)))))
 
         pub slices_whole : {m : Counts} → a ≡ Ok m → WalkSays p rows list
             (Ok (record { counts = m; pages = s.pages })) rows' list'
         slices_whole {m} e =
-            let (ps, q, i) = searched_at (search p.second p.head.cursor.opened (reader_of p)) (sym search_says ∙ n) in
+            let (ps, q, i) = searched_at (search p.second p.opened.head.cursor.opened (reader_of p)) (sym search_says ∙ n) in
             let (r, l, w, f) = told_found (rw e at (told.told (suc s.block) (omega arith))) in
-            let few = short_found (path_short p.head.settings.block p.second (reader_of p) (suc s.block) s.block) w in
+            let few = short_found (path_short p.opened.head.settings.block p.second (reader_of p) (suc s.block) s.block) w in
             let g = search_few p search_says n in
             let given : m.rows ≡ length r = omega (arith, f.given) in
             let listed : m.blocks ≡ length l = omega (arith, f.blocks) in
             let all-rows : length (row_words r) ≤ length rows = omega (arith, words_length r, f.fits, b.long_rows) in
-            let all_blocks : length l ≤ length list = omega (arith, few, g.1, p.readable.sound.opened, b.long_list) in
+            let all_blocks : length l ≤ length list = omega (arith, few, g.1, p.opened.readable.sound.opened, b.long_list) in
             whole {r = r} {l = l} {ps = ps} (look_is ∙ look_found _ _ _ p.second (reader_of p) q w (omega (arith, f.fits)))
             (slice_is r l ps given f.pages listed i)
             (f.row_words_lem ∙ sets_written (row_words r) rows all-rows)

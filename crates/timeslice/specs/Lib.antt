@@ -1,4 +1,3 @@
-pub mod Opened
 pub mod Reading
 pub mod Taken
 pub mod Told

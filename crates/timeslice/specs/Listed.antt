@@ -25,14 +25,14 @@ pub data Listed (list : List ℕ) (n : ℕ) : Walk → Result ℕ Unsound → Li
 
 -- A visit, with any fuel that is enough.
 pub record VisitListed (p : Past) (lower upper number : ℕ) (list : List ℕ) (n : ℕ) (a : Result ℕ Unsound) (list' : List ℕ) : Type 0 where
-  pub told : (f : ℕ) → upper - lower < f → Listed list n (visit p.head.settings.block p.second (reader_of p) f lower upper number) a list'
+  pub told : (f : ℕ) → upper - lower < f → Listed list n (visit p.opened.head.settings.block p.second (reader_of p) f lower upper number) a list'
 
 -- The two visits inside a listed block, of its last child and of its left.
 abbrev pub inside : Past → ℕ → ℕ → ℕ → ℕ → Walk
 inside p f lower upper n =
     let block = (reader_of p).block n in
-    and_then (visit p.head.settings.block p.second (reader_of p) f n upper (block_word block child_word))
-    (visit p.head.settings.block p.second (reader_of p) f lower n (block_word block left_word))
+    and_then (visit p.opened.head.settings.block p.second (reader_of p) f n upper (block_word block child_word))
+    (visit p.opened.head.settings.block p.second (reader_of p) f lower n (block_word block left_word))
 
 pub record InsideListed (p : Past) (lower upper number : ℕ) (list : List ℕ) (n : ℕ) (a : Result ℕ Unsound) (list' : List ℕ) : Type 0 where
   pub told : (f : ℕ) → upper - lower ≤ f → Listed list n (inside p f lower upper number) a list'
@@ -40,15 +40,15 @@ pub record InsideListed (p : Past) (lower upper number : ℕ) (list : List ℕ) 
 -- ---- what is asked
 -- room to list a visit between two numbers
 pub record ListRoom (p : Past) (lower upper n : ℕ) (list : List ℕ) : Type 0 where
-  pub long : p.head.settings.blocks ≤ length list
+  pub long : p.opened.head.settings.blocks ≤ length list
   pub gap : lower < upper
-  pub known : upper ≤ p.head.settings.blocks + 1
-  pub blocks : n + upper ≤ p.head.settings.blocks + 1 + lower
+  pub known : upper ≤ p.opened.head.settings.blocks + 1
+  pub blocks : n + upper ≤ p.opened.head.settings.blocks + 1 + lower
 
 -- room to list the visits inside a block, which is the last that is listed
 pub record InsideRoom (p : Past) (lower upper number n : ℕ) (list : List ℕ) : Type 0 where
-  pub long : p.head.settings.blocks ≤ length list
+  pub long : p.opened.head.settings.blocks ≤ length list
   pub low : lower < number
   pub high : number < upper
-  pub known : upper ≤ p.head.settings.blocks + 1
-  pub blocks : n + upper ≤ p.head.settings.blocks + 2 + lower
+  pub known : upper ≤ p.opened.head.settings.blocks + 1
+  pub blocks : n + upper ≤ p.opened.head.settings.blocks + 2 + lower

@@ -2,7 +2,7 @@
 -- list the whole visit is told.
 use Rattle.std.specs.Prelude.{◌≡◌, List, [], ◌∷◌, ◌++◌, ℕ, suc, ◌+◌, ◌-◌, ◌≤◌, ◌<◌, length, take, drop, Result, Ok, Err}
 use Rattle.std.proofs.Math.Path.{refl}
-use Rattle.std.proofs.Common.{sym, ◌∙◌, append_assoc, length-append, length-set, length-take, take_at, drop_at}
+use Rattle.std.proofs.Common.{sym, ◌∙◌, append_assoc, length-append, length-take, take_at, drop_at}
 use native.Mathlib.Omega.{arith}
 use Rattle.std.proofs.Math.ListN.{set}
 use Rattle.std.proofs.lemmas.List.Edits.{sets, sets-eq}
@@ -42,7 +42,7 @@ listed_found (every {r = r} {l = l} e q) = (r, l, refl, e, q)
 
 -- ---- the ways out of a visit of block k
 abbrev go : Past → ℕ → ℕ → ℕ → ℕ → Walk
-go p = visit p.head.settings.block p.second (reader_of p)
+go p = visit p.opened.head.settings.block p.second (reader_of p)
 
 module _ {p : Past} {lower upper k : ℕ} {list : List ℕ} {n : ℕ} where
   enough : {a : Result ℕ Unsound} {list' : List ℕ} → ((f : ℕ) → upper - lower ≤ f → Listed list n (go p (suc f) lower upper k) a list')
@@ -78,7 +78,7 @@ module _ {p : Past} {lower upper k : ℕ} {list : List ℕ} {n : ℕ} where
           → VisitListed p lower upper k list n a list'
       unfolding visit
       visit_goes g inside =
-          let b = p.head.settings.block in
+          let b = p.opened.head.settings.block in
           let here : Listed list n (found (rows_of b p.second ((reader_of p).block k)) (k ∷ [])) (Ok (n + 1)) (set list n k) = every {l = k ∷ []} refl refl in
           let h : p.second < block_word ((reader_of p).block k) closed_word = rw (word_is closed_word is c) at g in
           enough (λ f q.
@@ -100,7 +100,7 @@ module _ {p : Past} {lower upper k : ℕ} {list : List ℕ} {n : ℕ} (room : In
     pub left_room : length list₁ ≡ length list → ListRoom p lower k m list₁
     left_room same =
         let (r, l, w, e', q) = listed_found (rw e at (first.told (suc (upper - k)) (omega arith))) in
-        let short = short_found (visit_short p.head.settings.block p.second (reader_of p) (suc (upper - k)) k upper child room.high) w in
+        let short = short_found (visit_short p.opened.head.settings.block p.second (reader_of p) (suc (upper - k)) k upper child room.high) w in
         record {
           long = omega (arith, room.long);
           gap = room.low;
@@ -120,12 +120,12 @@ module _ {p : Past} {lower upper k : ℕ} {list : List ℕ} {n : ℕ} (room : In
 pub record ListedPart (p : Past) (lower upper k : ℕ) (rows list : List ℕ) (n : Counts) (m : ℕ) (list' : List ℕ) : Type 0 where
   pub start : n.blocks ≤ m
   pub end : m ≤ length list'
-  pub numbered : All (Numbered p.head.settings) (take (m - n.blocks) (drop n.blocks list'))
+  pub numbered : All (Numbered p.opened.head.settings) (take (m - n.blocks) (drop n.blocks list'))
   pub many : {x : Result ℕ Unsound} {u : Unsound} {rows' : List ℕ}
-      → Takes p.head.settings.tags rows n.rows (rows_in p.head.settings.block p.second (reader_of p) (take (m - n.blocks) (drop n.blocks list'))) x rows'
+      → Takes p.opened.head.settings.tags rows n.rows (rows_in p.opened.head.settings.block p.second (reader_of p) (take (m - n.blocks) (drop n.blocks list'))) x rows'
       → x ≡ Err u → VisitTold p lower upper k rows list n (Err u) rows' list'
   pub whole : {x : Result ℕ Unsound} {rows' : List ℕ} {given : ℕ}
-      → Takes p.head.settings.tags rows n.rows (rows_in p.head.settings.block p.second (reader_of p) (take (m - n.blocks) (drop n.blocks list'))) x rows'
+      → Takes p.opened.head.settings.tags rows n.rows (rows_in p.opened.head.settings.block p.second (reader_of p) (take (m - n.blocks) (drop n.blocks list'))) x rows'
       → x ≡ Ok given → VisitTold p lower upper k rows list n (Ok (record { rows = given; pages = n.pages; blocks = m })) rows' list'
 
 module _ {p : Past} {lower upper : ℕ} {rows list : List ℕ} {n : Counts} (room : Gap p lower upper n rows list) where
@@ -136,7 +136,7 @@ module _ {p : Past} {lower upper : ℕ} {rows list : List ℕ} {n : Counts} (roo
   gap_rows = record { fits = room.fits; long = room.buffers.long_rows }
 
   -- what was listed behind the others is that part of the list
-  listed_part : {m : ℕ} {list' l : List ℕ} → m ≡ n.blocks + length l → list' ≡ sets list n.blocks l → n.blocks + length l ≤ p.head.settings.blocks
+  listed_part : {m : ℕ} {list' l : List ℕ} → m ≡ n.blocks + length l → list' ≡ sets list n.blocks l → n.blocks + length l ≤ p.opened.head.settings.blocks
       → take (m - n.blocks) (drop n.blocks list') ≡ l
   listed_part {m} {list'} {l} e q g =
       let a : ℕ = n.blocks in
@@ -147,7 +147,7 @@ module _ {p : Past} {lower upper : ℕ} {rows list : List ℕ} {n : Counts} (roo
       rw (i, d, drop_at (take a list) (l ++ drop (a + length l) list) a front) (take_at l (drop (a + length l) list) (length l) refl)
 
   stops : {u : Unsound} {list' : List ℕ} {w : Walk} → Listed list n.blocks w (Err u) list' → {rows' : List ℕ}
-      → WalkTold p.head.settings.tags rows list n w (Err u) rows' list'
+      → WalkTold p.opened.head.settings.tags rows list n w (Err u) rows' list'
   stops none = bad
 
   module _ {k : ℕ} {a : Result ℕ Unsound} {list' : List ℕ} (listing : VisitListed p lower upper k list n.blocks a list') where
@@ -155,20 +155,20 @@ module _ {p : Past} {lower upper : ℕ} {rows list : List ℕ} {n : Counts} (roo
     pub visit_stops : {u : Unsound} → a ≡ Err u → {rows' : List ℕ} → VisitTold p lower upper k rows list n (Err u) rows' list'
     visit_stops e = record { told = λ f h. stops (rw e at (listing.told f h)) }
 
-    few : (f : ℕ) {r : List Row} {l : List ℕ} → visit p.head.settings.block p.second (reader_of p) f lower upper k ≡ found r l
-        → n.blocks + length l ≤ p.head.settings.blocks
-    few f w = omega (arith, short_found (visit_short p.head.settings.block p.second (reader_of p) f lower upper k room.gap) w, room.blocks)
+    few : (f : ℕ) {r : List Row} {l : List ℕ} → visit p.opened.head.settings.block p.second (reader_of p) f lower upper k ≡ found r l
+        → n.blocks + length l ≤ p.opened.head.settings.blocks
+    few f w = omega (arith, short_found (visit_short p.opened.head.settings.block p.second (reader_of p) f lower upper k room.gap) w, room.blocks)
 
     -- or what is listed is a part of the list,
     module _ {m : ℕ} (ok : a ≡ Ok m) (same : length list' ≡ length list) where
       -- whose rows are the visit's,
       found_by : {x : Result ℕ Unsound} {rows' : List ℕ}
-          → Takes p.head.settings.tags rows n.rows (rows_in p.head.settings.block p.second (reader_of p) (take (m - n.blocks) (drop n.blocks list'))) x rows'
+          → Takes p.opened.head.settings.tags rows n.rows (rows_in p.opened.head.settings.block p.second (reader_of p) (take (m - n.blocks) (drop n.blocks list'))) x rows'
           → (f : ℕ) → upper - lower < f
-          → (r : List Row) × (l : List ℕ) × (visit p.head.settings.block p.second (reader_of p) f lower upper k ≡ found r l) × (m ≡ n.blocks + length l)
-          × (list' ≡ sets list n.blocks l) × Takes p.head.settings.tags rows n.rows r x rows'
+          → (r : List Row) × (l : List ℕ) × (visit p.opened.head.settings.block p.second (reader_of p) f lower upper k ≡ found r l) × (m ≡ n.blocks + length l)
+          × (list' ≡ sets list n.blocks l) × Takes p.opened.head.settings.tags rows n.rows r x rows'
       found_by taken f g =
-          let b = p.head.settings.block in
+          let b = p.opened.head.settings.block in
           let (r, l, w, e, q) = listed_found (rw ok at (listing.told f g)) in
           let i : r ≡ rows_in b p.second (reader_of p) l =
           follows_rows b p.second (reader_of p) (rw w at (visit_follows b p.second (reader_of p) f lower upper k)) in
@@ -178,7 +178,7 @@ module _ {p : Past} {lower upper : ℕ} {rows list : List ℕ} {n : Counts} (roo
       -- of blocks of the store.
       pub visit_part : ListedPart p lower upper k rows list n m list'
       visit_part =
-          let b = p.head.settings.block in
+          let b = p.opened.head.settings.block in
           let f : ℕ = suc (upper - lower) in
           let (r, l, w, e, q) = listed_found (rw ok at (listing.told f (omega arith))) in
           let i = listed_part {l = l} e q (few f w) in

@@ -48,19 +48,19 @@ module _ (R : Reader) (n : ℕ) {block : List ℕ} (is : block ≡ R.block n) {c
     up_child z i e = rw (← is, ← c, eq-eqb closed OPEN h, ← u, ne_eqb up 0 z, ← i, e)
 
 -- block 0's last child is the head's
-pub root_is : (p : Past) → p.head.cursor.child ≡ (reader_of p).root
+pub root_is : (p : Past) → p.opened.head.cursor.child ≡ (reader_of p).root
 unfolding reader
-root_is p = rw p.readable.is
+root_is p = rw p.opened.readable.is
 
 module _ (p : Past) (number : ℕ) {block : List ℕ} (is : block ≡ (reader_of p).block number) {up : ℕ} (u : up ≡ block_word block up_word) where
   up_is : up ≡ up_of p number
   up_is = word_is up_word is u
 
   -- the up of a block that lies above it is a block too, unless it is 0
-  pub up_numbered : Under p number → (up ≡ 0 → ⊥) → Numbered p.head.settings up
+  pub up_numbered : Under p number → (up ≡ 0 → ⊥) → Numbered p.opened.head.settings up
   up_numbered h z = record { low = omega arith; high = omega (arith, up_is, h.below, h.numbered.high) }
 
-  pub lies_under : Numbered p.head.settings number → up < number → Under p number
+  pub lies_under : Numbered p.opened.head.settings number → up < number → Under p number
   lies_under h l = record { numbered = h; below = omega (arith, up_is) }
 
   -- ---- a path block: its up is not below it, or its rows are too many, or the path goes on
@@ -69,7 +69,7 @@ module _ (p : Past) (number : ℕ) {block : List ℕ} (is : block ≡ (reader_of
     climb_above g = above (rw up_is at g)
 
     module _ (g : up < number) {x : Result ℕ Unsound} {rows' : List ℕ}
-        (taken : Takes p.head.settings.tags rows n.rows (rows_of p.head.settings.block p.second block) x rows') where
+        (taken : Takes p.opened.head.settings.tags rows n.rows (rows_of p.opened.head.settings.block p.second block) x rows') where
       pub climb_full : {e : Unsound} → x ≡ Err e → {list' : List ℕ} → Climbs p rows list n number (Err e) rows' list'
       climb_full q = full (rw up_is at g) (taken_many (rw is at taken) q)
 
@@ -81,16 +81,16 @@ module _ (p : Past) (number : ℕ) {block : List ℕ} (is : block ≡ (reader_of
 -- ---- the ways out of a path at block k
 module _ {p : Past} {k : ℕ} {rows list : List ℕ} {n : Counts} where
   enough : {a : Result Counts Unsound} {rows' list' : List ℕ}
-      → ((f : ℕ) → k ≤ f → WalkTold p.head.settings.tags rows list n (path p.head.settings.block p.second (reader_of p) (suc f) k) a rows' list')
+      → ((f : ℕ) → k ≤ f → WalkTold p.opened.head.settings.tags rows list n (path p.opened.head.settings.block p.second (reader_of p) (suc f) k) a rows' list')
       → PathTold p k rows list n a rows' list'
   enough {a} {rows'} {list'} g = record {
-    told = with_fuel (λ f. WalkTold p.head.settings.tags rows list n (path p.head.settings.block p.second (reader_of p) f k) a rows' list') k g;
+    told = with_fuel (λ f. WalkTold p.opened.head.settings.tags rows list n (path p.opened.head.settings.block p.second (reader_of p) f k) a rows' list') k g;
   }
 
   -- It is at 0,
-  top_told : k ≡ 0 → n.rows ≤ p.head.settings.tags → PathTold p k rows list n (Ok n) rows list
+  top_told : k ≡ 0 → n.rows ≤ p.opened.head.settings.tags → PathTold p k rows list n (Ok n) rows list
   unfolding path
-  top_told e g = enough (λ f q. rw (eq-eqb k 0 e) (told_none p.head.settings.tags rows list n g))
+  top_told e g = enough (λ f q. rw (eq-eqb k 0 e) (told_none p.opened.head.settings.tags rows list n g))
 
   module _ (z : k ≡ 0 → ⊥) where
     -- or its up is unsound or its rows are too many,
@@ -98,9 +98,9 @@ module _ {p : Past} {k : ℕ} {rows list : List ℕ} {n : Counts} where
     unfolding path
     stop_told (above g) = enough (λ f q. rw (ne_eqb k 0 z, le-leb k _ g) bad)
     stop_told (full g x) = enough (λ f q.
-        let b = p.head.settings.block in
+        let b = p.opened.head.settings.block in
         let v = visit b p.second (reader_of p) (suc k) (up_of p k) k (neighbour (reader_of p) k) in
-        rw (ne_eqb k 0 z, lt-leb k _ g) (told_stop p.head.settings.tags rows list n (and_then v (path b p.second (reader_of p) f (up_of p k))) x))
+        rw (ne_eqb k 0 z, lt-leb k _ g) (told_stop p.opened.head.settings.tags rows list n (and_then v (path b p.second (reader_of p) f (up_of p k))) x))
 
     -- or its left neighbour is visited,
     module _ {i : PathBlock} {a : Result Counts Unsound} {rows₁ list₁ rows₂ list₂ : List ℕ}
@@ -110,8 +110,8 @@ module _ {p : Past} {k : ℕ} {rows list : List ℕ} {n : Counts} where
       unfolding path
       visit_told e (on g y w x) = enough (λ f q.
           rw (ne_eqb k 0 z, lt-leb k _ g)
-          (told_then p.head.settings.tags rows list n x
-          (told_stop p.head.settings.tags rows₁ list₁ i.counts _ (rw (y, w, e) at (visited.told (suc k) (omega arith))))))
+          (told_then p.opened.head.settings.tags rows list n x
+          (told_stop p.opened.head.settings.tags rows₁ list₁ i.counts _ (rw (y, w, e) at (visited.told (suc k) (omega arith))))))
 
       -- or the path goes on from the up.
       next_told : {m : Counts} → a ≡ Ok m → Climbs p rows list n k (Ok i) rows₁ list₁ → {r : Result Counts Unsound} {rows₃ list₃ : List ℕ}
@@ -119,8 +119,8 @@ module _ {p : Past} {k : ℕ} {rows list : List ℕ} {n : Counts} where
       unfolding path
       next_told e (on g y w x) rest = enough (λ f q.
           rw (ne_eqb k 0 z, lt-leb k _ g)
-          (told_then p.head.settings.tags rows list n x
-          (told_then p.head.settings.tags rows₁ list₁ i.counts (rw (y, w, e) at (visited.told (suc k) (omega arith)))
+          (told_then p.opened.head.settings.tags rows list n x
+          (told_then p.opened.head.settings.tags rows₁ list₁ i.counts (rw (y, w, e) at (visited.told (suc k) (omega arith)))
           (rw y at (rest.told f (omega arith))))))
 
 -- ---- the loop: there is room, both buffers are as long as they were lent, and what tells the path from here tells the whole path
@@ -135,7 +135,7 @@ begun r = record { room = r; same_rows = refl; same_list = refl; whole = λ c. c
 
 -- one block is listed
 stepped : {p : Past} {k : ℕ} {n : Counts} {rows list rows₁ list₁ : List ℕ} {i : PathBlock} → Climbs p rows list n k (Ok i) rows₁ list₁
-    → (i.counts.blocks ≡ n.blocks + 1) × (i.counts.rows ≤ p.head.settings.tags) × (i.up < k)
+    → (i.counts.blocks ≡ n.blocks + 1) × (i.counts.rows ≤ p.opened.head.settings.tags) × (i.up < k)
 stepped {k = k} (on g y w x) =
     let (r, l, e, f) = told_found x in
     let q : l ≡ k ∷ [] = cc in
@@ -150,7 +150,7 @@ module _ {p : Past} {k₀ : ℕ} {rows₀ list₀ : List ℕ} {n₀ : Counts} {k
 
   -- at a block there is room for it,
   module _ (z : k ≡ 0 → ⊥) where
-    pub path_numbered : Numbered p.head.settings k
+    pub path_numbered : Numbered p.opened.head.settings k
     path_numbered = record { low = omega arith; high = so_far.room.known }
 
     pub path_space : Space p n rows list
@@ -191,7 +191,7 @@ module _ {p : Past} {k₀ : ℕ} {rows₀ list₀ : List ℕ} {n₀ : Counts} {k
                 let y = stepped (rw e at climbed) in
                 let room = so_far.room in
                 let (r, l, w, g) = told_found (rw q at (visited.told (suc (k - i.up)) (omega arith))) in
-                let few = short_found (visit_short p.head.settings.block p.second (reader_of p) (suc (k - i.up)) i.up k i.next y.2) w in
+                let few = short_found (visit_short p.opened.head.settings.block p.second (reader_of p) (suc (k - i.up)) i.up k i.next y.2) w in
                 record {
                   room = record {
                     buffers = buffers_same room.buffers (same-rows₂ ∙ same_rows) (same-list₂ ∙ same_list);

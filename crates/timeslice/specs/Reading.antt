@@ -6,7 +6,7 @@ use Rattle.timeslice.specs.declared.Unsound.{Unsound}
 use Rattle.timeslice.specs.declared.past.Past.{Past}
 
 abbrev pub reader_of : Past → Reader
-reader_of p = reader p.store.now
+reader_of p = reader p.opened.store.now
 
 pub unsound_is : {A : Type 0} {x : Result A Unsound} → IsErr x → x ≡ Err (record {})
 unsound_is {x = Err e} h = refl

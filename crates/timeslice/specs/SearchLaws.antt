@@ -4,7 +4,7 @@ use Rattle.std.specs.Prelude.{◌≡◌, refl, cond, List, [], ◌∷◌, eqb, l
 use Rattle.std.proofs.Common.{sym, ◌∙◌, take, length-take}
 use Rattle.std.proofs.lemmas.List.{get_or-take}
 use Rattle.std.proofs.Math.Path.{ap}
-use Prim.Native.Nat.{ℕ, zero, suc, ◌+◌, ◌*◌, ◌-◌, ◌/◌, ◌%◌, ◌≤◌, ◌<◌, min}
+use Prim.Native.Nat.{ℕ, zero, suc, ◌+◌, ◌*◌, ◌-◌, ◌≤◌, ◌<◌, min}
 use Rattle.std.proofs.Math.Numerals.{add-one}
 use Rattle.std.specs.Int.{div_ceil}
 use Rattle.std.specs.Result.{result_ok}
@@ -120,34 +120,34 @@ module _ (opened : ℕ) where
 -- ---- the definitions over what a look-back reads
 module _ (p : Past) where
   abbrev looks : ℕ → ℕ → ℕ
-  looks l e = look_up p.second p.head.cursor.opened (reader_of p) l e
+  looks l e = look_up p.second p.opened.head.cursor.opened (reader_of p) l e
 
   abbrev downs : ℕ → ℕ → Finding ℕ (List Pass)
-  downs l e = descend p.second p.head.cursor.opened (reader_of p) l e
+  downs l e = descend p.second p.opened.head.cursor.opened (reader_of p) l e
 
   abbrev all : Finding ℕ (List Pass)
-  all = search p.second p.head.cursor.opened (reader_of p)
+  all = search p.second p.opened.head.cursor.opened (reader_of p)
 
 -- ---- what a store that was opened has
-pub few_opened : (p : Past) → p.head.cursor.opened ≤ 4096
-few_opened p = omega (arith, p.readable.sound.opened, p.readable.sound.within.blocks)
+pub few_opened : (p : Past) → p.opened.head.cursor.opened ≤ 4096
+few_opened p = omega (arith, p.opened.readable.sound.opened, p.opened.readable.sound.within.blocks)
 
-pub long_enough : (p : Past) → dir_start ≤ length p.store.now
-long_enough p = omega (arith, (held_fits p.readable.held).long, layout_least p.head.settings)
+pub long_enough : (p : Past) → dir_start ≤ length p.opened.store.now
+long_enough p = omega (arith, (held_fits p.opened.readable.held).long, layout_least p.opened.head.settings)
 
 module _ {p : Past} {l e : ℕ} (on : OnPage p l e) where
   -- a page that is read lies in the level that is handed out,
-  pub page_in : {level : List ℕ} → LevelPart p.store.now l level → page_len * e + page_len ≤ length level
-  page_in part = omega (arith, part.long, page_fits p.head.cursor.opened (few_opened p) l e on.three on.some)
+  pub page_in : {level : List ℕ} → LevelPart p.opened.store.now l level → page_len * e + page_len ≤ length level
+  page_in part = omega (arith, part.long, page_fits p.opened.head.cursor.opened (few_opened p) l e on.three on.some)
 
   -- and has no more entries than words
   pub count_in : {page : List ℕ} {level : List ℕ} → PagePart level e page → {count : ℕ}
-      → count ≡ min page_len (entries p.head.cursor.opened l - page_len * e) → count ≤ length page
+      → count ≡ min page_len (entries p.opened.head.cursor.opened l - page_len * e) → count ≤ length page
   count_in part c = omega (arith, part.long)
 
 -- ---- what a page gives
-module _ (p : Past) {l e : ℕ} {level page : List ℕ} {count : ℕ} (in_level : LevelPart p.store.now l level) (in_page : PagePart level e page)
-    (c : count ≡ min page_len (entries p.head.cursor.opened l - page_len * e)) where
+module _ (p : Past) {l e : ℕ} {level page : List ℕ} {count : ℕ} (in_level : LevelPart p.opened.store.now l level) (in_page : PagePart level e page)
+    (c : count ≡ min page_len (entries p.opened.head.cursor.opened l - page_len * e)) where
   looked_is : looks p l e ≡ last_up_to p.second count page
   unfolding look_up reader
   looked_is = rw (c, in_page.is, in_level.is)
@@ -187,19 +187,19 @@ pub page_entry : {p : Past} {l e : ℕ} → OnPage p l e → {x : Option ℕ} {k
     → OnEntry p l (page_len * e + k)
 page_entry {p} {l} {e} on q s =
     let n = entry_some (looks p l e) (sym q ∙ s) in
-    record { three = on.three; entry = omega (arith, look_most p.second p.head.cursor.opened (reader_of p) l e, n) }
+    record { three = on.three; entry = omega (arith, look_most p.second p.opened.head.cursor.opened (reader_of p) l e, n) }
 
 -- the level below is asked for a page with an entry
 pub entry_page : {p : Past} {l e : ℕ} → OnEntry p l e → (l ≡ 0 → ⊥) → OnPage p (l - 1) e
 entry_page {p} {l} {e} on z =
     let q : l ≡ suc (l - 1) = omega arith in
-    record { three = omega (arith, on.three); some = below_some p.head.cursor.opened (l - 1) e (rw q at on.entry) }
+    record { three = omega (arith, on.three); some = below_some p.opened.head.cursor.opened (l - 1) e (rw q at on.entry) }
 
 -- the top page is read whenever a block is opened
-pub top_page : (p : Past) → (p.head.cursor.opened ≡ 0 → ⊥) → {l : ℕ} → l ≡ top_level p.head.cursor.opened → OnPage p l 0
+pub top_page : (p : Past) → (p.opened.head.cursor.opened ≡ 0 → ⊥) → {l : ℕ} → l ≡ top_level p.opened.head.cursor.opened → OnPage p l 0
 top_page p z {l} e = record {
-  three = omega (arith, top_below p.head.cursor.opened);
-  some = omega (arith, entries_some p.head.cursor.opened (omega arith) l);
+  three = omega (arith, top_below p.opened.head.cursor.opened);
+  some = omega (arith, entries_some p.opened.head.cursor.opened (omega arith) l);
 }
 
 -- its last entry is the one to go down from
@@ -289,21 +289,21 @@ none_read e = rw e (omega arith)
 pub few_read : (p : Past) {l e : ℕ} → OnEntry p l e → {x : Result PathStart Unsound} → x ≡ descended p l e
     → {s : PathStart} → x ≡ Ok s → s.read ≤ 2
 few_read p {l} {e} h q n =
-    omega (arith, small_start (descend_small p.second p.head.cursor.opened (reader_of p) l e h.entry) (sym q ∙ n), h.three)
+    omega (arith, small_start (descend_small p.second p.opened.head.cursor.opened (reader_of p) l e h.entry) (sym q ∙ n), h.three)
 
 -- ---- the whole search
 module _ (p : Past) where
-  pub search_empty : p.head.cursor.opened ≡ 0 → {s : PathStart} → s ≡ path_start 0 [] → Ok s ≡ searched p
+  pub search_empty : p.opened.head.cursor.opened ≡ 0 → {s : PathStart} → s ≡ path_start 0 [] → Ok s ≡ searched p
   unfolding search
-  search_empty z q = rw (eq-eqb p.head.cursor.opened 0 z) (ap Ok q)
+  search_empty z q = rw (eq-eqb p.opened.head.cursor.opened 0 z) (ap Ok q)
 
-  module _ (z : p.head.cursor.opened ≡ 0 → ⊥) {l : ℕ} (top : l ≡ top_level p.head.cursor.opened) {x : Option ℕ} (look : x ≡ looked_up p l 0) where
+  module _ (z : p.opened.head.cursor.opened ≡ 0 → ⊥) {l : ℕ} (top : l ≡ top_level p.opened.head.cursor.opened) {x : Option ℕ} (look : x ≡ looked_up p l 0) where
     three : l < 3
-    three = omega (arith, top_below p.head.cursor.opened)
+    three = omega (arith, top_below p.opened.head.cursor.opened)
 
     search_is : all p ≡ passing (record { level = l; number = 0 }) (cond (eqb (looks p l 0) 0) (found 0 []) (downs p l (looks p l 0 - 1)))
     unfolding search
-    search_is = rw (ne_eqb p.head.cursor.opened 0 z, ← top)
+    search_is = rw (ne_eqb p.opened.head.cursor.opened 0 z, ← top)
 
     -- the top page has no entry up to then,
     pub search_before : x ≡ None → {s r : PathStart} → s ≡ path_start 0 [] → r ≡ pass_over l 0 s → Ok r ≡ searched p
@@ -340,5 +340,5 @@ search_small t opened R =
     small_more (top_below opened) (passing_small top (descend_small t opened R l (look_up t opened R l 0 - 1) (omega arith)))))
 
 pub search_few : (p : Past) {x : Result PathStart Unsound} → x ≡ searched p → {s : PathStart} → x ≡ Ok s
-    → (s.read ≤ 3) × (s.block ≤ p.head.cursor.opened)
-search_few p q n = small_start (search_small p.second p.head.cursor.opened (reader_of p)) (sym q ∙ n)
+    → (s.read ≤ 3) × (s.block ≤ p.opened.head.cursor.opened)
+search_few p q n = small_start (search_small p.second p.opened.head.cursor.opened (reader_of p)) (sym q ∙ n)

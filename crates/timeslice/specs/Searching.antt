@@ -31,21 +31,21 @@ entry_of (suc k) = Some k
 -- ---- the parts of the search, over what a look-back reads
 module _ (p : Past) where
   abbrev pub looked_up : ℕ → ℕ → Option ℕ
-  looked_up l e = entry_of (look_up p.second p.head.cursor.opened (reader_of p) l e)
+  looked_up l e = entry_of (look_up p.second p.opened.head.cursor.opened (reader_of p) l e)
 
   abbrev pub descended : ℕ → ℕ → Result PathStart Unsound
-  descended l e = searched_of (descend p.second p.head.cursor.opened (reader_of p) l e)
+  descended l e = searched_of (descend p.second p.opened.head.cursor.opened (reader_of p) l e)
 
   abbrev pub searched : Result PathStart Unsound
-  searched = searched_of (search p.second p.head.cursor.opened (reader_of p))
+  searched = searched_of (search p.second p.opened.head.cursor.opened (reader_of p))
 
 -- ---- what is asked
 -- page e of one of the three levels has an entry
 pub record OnPage (p : Past) (l e : ℕ) : Type 0 where
   pub three : l < 3
-  pub some : page_len * e < entries p.head.cursor.opened l
+  pub some : page_len * e < entries p.opened.head.cursor.opened l
 
 -- one of the three levels has entry e
 pub record OnEntry (p : Past) (l e : ℕ) : Type 0 where
   pub three : l < 3
-  pub entry : e < entries p.head.cursor.opened l
+  pub entry : e < entries p.opened.head.cursor.opened l

@@ -15,5 +15,5 @@ pub data Takes (d : ℕ) (buffer : List ℕ) (given : ℕ) (r : List Row) : Resu
 
 -- what the row taker asks: a buffer with room for D rows, of which at most that many are given
 pub record RowBuffer (p : Past) (given : ℕ) (rows : List ℕ) : Type 0 where
-  pub fits : given ≤ p.head.settings.tags
-  pub long : row_len * p.head.settings.tags ≤ length rows
+  pub fits : given ≤ p.opened.head.settings.tags
+  pub long : row_len * p.opened.head.settings.tags ≤ length rows

@@ -35,15 +35,15 @@ pub data WalkTold (d : ℕ) (rows list : List ℕ) (n : Counts) : Walk → Resul
 pub record VisitTold (p : Past) (lower upper number : ℕ) (rows list : List ℕ) (n : Counts) (a : Result Counts Unsound) (rows' list' : List ℕ)
     : Type 0 where
   pub told : (f : ℕ) → upper - lower < f
-      → WalkTold p.head.settings.tags rows list n (visit p.head.settings.block p.second (reader_of p) f lower upper number) a rows' list'
+      → WalkTold p.opened.head.settings.tags rows list n (visit p.opened.head.settings.block p.second (reader_of p) f lower upper number) a rows' list'
 
 pub record PathTold (p : Past) (number : ℕ) (rows list : List ℕ) (n : Counts) (a : Result Counts Unsound) (rows' list' : List ℕ) : Type 0 where
-  pub told : (f : ℕ) → number < f → WalkTold p.head.settings.tags rows list n (path p.head.settings.block p.second (reader_of p) f number) a rows' list'
+  pub told : (f : ℕ) → number < f → WalkTold p.opened.head.settings.tags rows list n (path p.opened.head.settings.block p.second (reader_of p) f number) a rows' list'
 
 -- ---- the parts of a path
 -- a block with its rows
 abbrev pub block_walk : Past → ℕ → Walk
-block_walk p number = found (rows_of p.head.settings.block p.second ((reader_of p).block number)) (number ∷ [])
+block_walk p number = found (rows_of p.opened.head.settings.block p.second ((reader_of p).block number)) (number ∷ [])
 
 -- the up of a block, as the store hands it out
 abbrev pub up_of : Past → ℕ → ℕ
@@ -52,39 +52,39 @@ up_of p n = block_word ((reader_of p).block n) up_word
 -- a path block: its up is below it, it is listed, its rows are taken, and its left neighbour is next
 pub data Climbs (p : Past) (rows list : List ℕ) (n : Counts) (number : ℕ) : Result PathBlock Unsound → List ℕ → List ℕ → Type 0 where
   on : {i : PathBlock} {rows' list' : List ℕ} → up_of p number < number → i.up ≡ up_of p number → i.next ≡ neighbour (reader_of p) number
-      → WalkTold p.head.settings.tags rows list n (block_walk p number) (Ok i.counts) rows' list' → Climbs p rows list n number (Ok i) rows' list'
+      → WalkTold p.opened.head.settings.tags rows list n (block_walk p number) (Ok i.counts) rows' list' → Climbs p rows list n number (Ok i) rows' list'
   above : {e : Unsound} {rows' list' : List ℕ} → number ≤ up_of p number → Climbs p rows list n number (Err e) rows' list'
   full : {e : Unsound} {rows' list' : List ℕ} → up_of p number < number
-      → WalkTold p.head.settings.tags rows list n (block_walk p number) (Err e) rows' list' → Climbs p rows list n number (Err e) rows' list'
+      → WalkTold p.opened.head.settings.tags rows list n (block_walk p number) (Err e) rows' list' → Climbs p rows list n number (Err e) rows' list'
 
 -- ---- what is asked
 -- both buffers are long enough: refusal 11 does not apply
 pub record Buffers (p : Past) (rows list : List ℕ) : Type 0 where
-  pub long_rows : row_len * p.head.settings.tags ≤ length rows
-  pub long_list : p.head.settings.blocks ≤ length list
+  pub long_rows : row_len * p.opened.head.settings.tags ≤ length rows
+  pub long_list : p.opened.head.settings.blocks ≤ length list
 
 -- room for one block more
 pub record Space (p : Past) (n : Counts) (rows list : List ℕ) : Type 0 where
   pub buffers : Buffers p rows list
-  pub fits : n.rows ≤ p.head.settings.tags
-  pub block : n.blocks < p.head.settings.blocks
+  pub fits : n.rows ≤ p.opened.head.settings.tags
+  pub block : n.blocks < p.opened.head.settings.blocks
 
 -- room for a visit between two numbers: it lists fewer blocks than their gap
 pub record Gap (p : Past) (lower upper : ℕ) (n : Counts) (rows list : List ℕ) : Type 0 where
   pub buffers : Buffers p rows list
-  pub fits : n.rows ≤ p.head.settings.tags
+  pub fits : n.rows ≤ p.opened.head.settings.tags
   pub gap : lower < upper
-  pub known : upper ≤ p.head.settings.blocks + 1
-  pub blocks : n.blocks + upper ≤ p.head.settings.blocks + 1 + lower
+  pub known : upper ≤ p.opened.head.settings.blocks + 1
+  pub blocks : n.blocks + upper ≤ p.opened.head.settings.blocks + 1 + lower
 
 -- room for a path from a block: it lists no more blocks than its number
 pub record Reach (p : Past) (number : ℕ) (n : Counts) (rows list : List ℕ) : Type 0 where
   pub buffers : Buffers p rows list
-  pub fits : n.rows ≤ p.head.settings.tags
-  pub known : number ≤ p.head.settings.blocks
-  pub blocks : n.blocks + number ≤ p.head.settings.blocks
+  pub fits : n.rows ≤ p.opened.head.settings.tags
+  pub known : number ≤ p.opened.head.settings.blocks
+  pub blocks : n.blocks + number ≤ p.opened.head.settings.blocks
 
 -- a block of the store whose up lies below it
 pub record Under (p : Past) (number : ℕ) : Type 0 where
-  pub numbered : Numbered p.head.settings number
+  pub numbered : Numbered p.opened.head.settings number
   pub below : up_of p number < number

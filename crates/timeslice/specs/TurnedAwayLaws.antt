@@ -14,18 +14,18 @@ module _ {p : Past} {rows list : ℕ} where
 
   -- The second is not OPEN, so that it is below it.
   module _ (known : p.second < OPEN) where
-    pub own_late : p.head.cursor.clock < p.second → SliceRefusal p rows list (Err refusal.Late)
+    pub own_late : p.opened.head.cursor.clock < p.second → SliceRefusal p rows list (Err refusal.Late)
     own_late c = record { own = turned (λ u. rw (lt-leb OPEN p.second known, lt-ltb _ p.second c)) refl }
 
-    module _ (past : p.second ≤ p.head.cursor.clock) where
-      pub own_rows : rows < row_len * p.head.settings.tags → SliceRefusal p rows list (Err refusal.ShortBuffer)
+    module _ (past : p.second ≤ p.opened.head.cursor.clock) where
+      pub own_rows : rows < row_len * p.opened.head.settings.tags → SliceRefusal p rows list (Err refusal.ShortBuffer)
       own_rows d = record { own = turned (λ u. rw (lt-leb OPEN p.second known, le-ltb _ p.second past, lt-ltb rows _ d)) refl }
 
-      module _ (d : row_len * p.head.settings.tags ≤ rows) where
-        pub own_list : list < p.head.settings.blocks → SliceRefusal p rows list (Err refusal.ShortBuffer)
+      module _ (d : row_len * p.opened.head.settings.tags ≤ rows) where
+        pub own_list : list < p.opened.head.settings.blocks → SliceRefusal p rows list (Err refusal.ShortBuffer)
         own_list e = record { own = turned (λ u. rw (lt-leb OPEN p.second known, le-ltb _ p.second past, le-ltb rows _ d, lt-ltb list _ e)) refl }
 
-        pub own_none : p.head.settings.blocks ≤ list → SliceRefusal p rows list (Ok tt)
+        pub own_none : p.opened.head.settings.blocks ≤ list → SliceRefusal p rows list (Ok tt)
         own_none e = record {
           own = free (record {
             room = (d, e);

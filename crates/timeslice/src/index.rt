@@ -90,8 +90,8 @@ impl Past<'_> {
         requires { OnPage self.now l e }
         ensures { result ≡ looked_up self.now l e }
     {
-        let count = on_page(self.head.cursor.opened, l, e) as usize;
-        let page = parts::page(parts::level(self.store, l), e);
+        let count = on_page(self.opened.head.cursor.opened, l, e) as usize;
+        let page = parts::page(parts::level(self.opened.store, l), e);
         let last = last_up_to(&page[..count], self.second)?;
         Some(last as u32)
     }
@@ -114,7 +114,7 @@ impl Past<'_> {
     pub(crate) fn search(&self) -> Result<PathStart, Unsound>
         ensures { result ≡ searched self.now }
     {
-        let opened = self.head.cursor.opened;
+        let opened = self.opened.head.cursor.opened;
         if opened == 0 {
             return Ok(PathStart::at(0));
         }

@@ -41,13 +41,13 @@ impl Past<'_> {
         if self.second == layout::OPEN {
             return Err(Refusal::TimeOpen);
         }
-        if self.head.cursor.clock < self.second {
+        if self.opened.head.cursor.clock < self.second {
             return Err(Refusal::Late);
         }
-        if rows < layout::ROW_LEN * self.head.settings.tags as usize {
+        if rows < layout::ROW_LEN * self.opened.head.settings.tags as usize {
             return Err(Refusal::ShortBuffer);
         }
-        if list < self.head.settings.blocks as usize {
+        if list < self.opened.head.settings.blocks as usize {
             return Err(Refusal::ShortBuffer);
         }
         Ok(())
@@ -96,11 +96,7 @@ pub fn look_back(
         rows.old list.old result rows.new list.new }
 {
     let opened = queries::open(store)?;
-    let past = Past {
-        store,
-        head: opened.head,
-        second,
-    };
+    let past = Past { opened, second };
     past.test(rows.len(), list.len())?;
     past.answer(rows, list)
 }

@@ -12,10 +12,10 @@ impl Past<'_> {
     // The row of slot k, if its record stands then: the rows given with it, and more of them than tags are unsound.
     // Most records that do not stand have ended, so the end is tested first.
     fn take_row(&self, block: &[u32], k: u32, rows: &mut [u32], given: u32) -> Result<u32, Unsound>
-        requires whole { length block.now ≡ block_head + record_len * self.now.head.settings.block }
-        requires k_lt_block { k < self.now.head.settings.block }
+        requires whole { length block.now ≡ block_head + record_len * self.now.opened.head.settings.block }
+        requires k_lt_block { k < self.now.opened.head.settings.block }
         requires row_buffer { RowBuffer self.now given rows.old }
-        ensures { Takes self.now.head.settings.tags rows.old given (row_of self.now.second block.now k) result rows.new }
+        ensures { Takes self.now.opened.head.settings.tags rows.old given (row_of self.now.second block.now k) result rows.new }
     {
         if parts::slot_word(block, k, fields::TO) <= self.second {
             return Ok(given);
@@ -23,7 +23,7 @@ impl Past<'_> {
         if self.second < parts::slot_word(block, k, fields::FROM) {
             return Ok(given);
         }
-        if self.head.settings.tags <= given {
+        if self.opened.head.settings.tags <= given {
             return Err(Unsound);
         }
         let at = layout::ROW_LEN * given as usize;
@@ -42,13 +42,13 @@ impl Past<'_> {
         rows: &mut [u32],
         given: u32,
     ) -> Result<u32, Unsound>
-        requires whole { length block.now ≡ block_head + record_len * self.now.head.settings.block }
+        requires whole { length block.now ≡ block_head + record_len * self.now.opened.head.settings.block }
         requires row_buffer { RowBuffer self.now given rows.old }
-        ensures { Takes self.now.head.settings.tags rows.old given (rows_of self.now.head.settings.block self.now.second block.now) result
+        ensures { Takes self.now.opened.head.settings.tags rows.old given (rows_of self.now.opened.head.settings.block self.now.second block.now) result
             rows.new }
     {
         let mut so_far = given;
-        for k in 0..self.head.settings.block {
+        for k in 0..self.opened.head.settings.block {
             so_far = self.take_row(block, k, rows, so_far)?;
         }
         Ok(so_far)

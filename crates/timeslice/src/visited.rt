@@ -12,12 +12,12 @@ use layout::{fields, parts};
 impl Past<'_> {
     // The rows of one listed block, if it closes after the second.
     fn take_block(&self, number: u32, rows: &mut [u32], given: u32) -> Result<u32, Unsound>
-        requires numbered { Numbered self.now.head.settings number }
+        requires numbered { Numbered self.now.opened.head.settings number }
         requires row_buffer { RowBuffer self.now given rows.old }
-        ensures { Takes self.now.head.settings.tags rows.old given
-            (rows_at self.now.head.settings.block self.now.second (reader_of self.now) number) result rows.new }
+        ensures { Takes self.now.opened.head.settings.tags rows.old given
+            (rows_at self.now.opened.head.settings.block self.now.second (reader_of self.now) number) result rows.new }
     {
-        let block = parts::block(self.store, self.head.settings, number);
+        let block = self.opened.block(number);
         if parts::block_word(block, fields::CLOSED) <= self.second {
             return Ok(given);
         }
@@ -31,10 +31,10 @@ impl Past<'_> {
         rows: &mut [u32],
         given: u32,
     ) -> Result<u32, Unsound>
-        requires all { All (Numbered self.now.head.settings) listed.now }
+        requires all { All (Numbered self.now.opened.head.settings) listed.now }
         requires row_buffer { RowBuffer self.now given rows.old }
-        ensures { Takes self.now.head.settings.tags rows.old given
-            (rows_in self.now.head.settings.block self.now.second (reader_of self.now) listed.now) result rows.new }
+        ensures { Takes self.now.opened.head.settings.tags rows.old given
+            (rows_in self.now.opened.head.settings.block self.now.second (reader_of self.now) listed.now) result rows.new }
     {
         let mut so_far = given;
         for &number in listed {

@@ -46,7 +46,7 @@ impl Past<'_> {
         if upper <= number {
             return Err(Unsound);
         }
-        let block = parts::block(self.store, self.head.settings, number);
+        let block = self.opened.block(number);
         let closed = parts::block_word(block, fields::CLOSED);
         list[listed as usize] = number;
         if closed <= self.second {
@@ -68,7 +68,7 @@ impl Past<'_> {
         requires { InsideRoom self.now lower upper number listed list.old }
         ensures { InsideListed self.now lower upper number list.old listed result list.new }
     {
-        let block = parts::block(self.store, self.head.settings, number);
+        let block = self.opened.block(number);
         let child = parts::block_word(block, fields::CHILD);
         let left = parts::block_word(block, fields::LEFT);
         let after = self.visit(number, upper, child, list, listed)?;
@@ -102,15 +102,15 @@ impl Past<'_> {
         requires { Under self.now number }
         ensures { result ≡ neighbour_of (reader_of self.now) number }
     {
-        let block = parts::block(self.store, self.head.settings, number);
+        let block = self.opened.block(number);
         if parts::block_word(block, fields::CLOSED) != layout::OPEN {
             return parts::block_word(block, fields::LEFT);
         }
         let up = parts::block_word(block, fields::UP);
         if up == 0 {
-            return self.head.cursor.child;
+            return self.opened.head.cursor.child;
         }
-        let above = parts::block(self.store, self.head.settings, up);
+        let above = self.opened.block(up);
         parts::block_word(above, fields::CHILD)
     }
 
@@ -122,11 +122,11 @@ impl Past<'_> {
         list: &mut [u32],
         n: Counts,
     ) -> Result<PathBlock, Unsound>
-        requires numbered { Numbered self.now.head.settings number }
+        requires numbered { Numbered self.now.opened.head.settings number }
         requires space { Space self.now n rows.old list.old }
         ensures { Climbs self.now rows.old list.old n number result rows.new list.new }
     {
-        let block = parts::block(self.store, self.head.settings, number);
+        let block = self.opened.block(number);
         let up = parts::block_word(block, fields::UP);
         if number <= up {
             return Err(Unsound);

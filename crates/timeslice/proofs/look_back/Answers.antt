@@ -1,7 +1,5 @@
 -- `look_back` meets its contract: refusals 2, 3 and 4 are the store's, 5 to 11 its own tests', 12 the walk's.
-use mathlib.Core.Path.{refl}
 use Rattle.std.proofs.lemmas.Result.{err_from_is_err_and}
-use Rattle.queries.specs.OpenLaws.{ready_by}
 use Rattle.timeslice.specs.AnswerLaws.{store_refused, slice_refused, slice_answers, buffers_ready}
 use Rattle.timeslice.proofs.look_back.Goals as goal
 
@@ -10,16 +8,13 @@ returns-in_err-opened c =
     let p = err_from_is_err_and c.from_residual.result c.from_residual.ensures.1 in
     rw (p.1, p.2) (store_refused _ _ _ _ c.in_err-opened.ensures)
 
-pub invariant_of-past : goal.invariant_of-past
-invariant_of-past c = record { readable = ready_by c.in_ok-opened.ensures }
-
 pub returns-in_err-test : goal.returns-in_err-test
 returns-in_err-test c =
     let p = err_from_is_err_and c.from_residual-in_err-test.result c.from_residual-in_err-test.ensures.1 in
-    rw (p.1, p.2) (slice_refused _ c.in_ok-opened.ensures refl c.in_err-test.ensures)
+    rw (p.1, p.2) (slice_refused c.in_ok-opened.ensures _ c.in_err-test.ensures)
 
 pub answer-requires : goal.answer-requires
 answer-requires c = buffers_ready c.in_ok-test.ensures
 
 pub returns : goal.returns
-returns c = slice_answers _ c.in_ok-opened.ensures refl c.in_ok-test.ensures c.answer.ensures
+returns c = slice_answers c.in_ok-opened.ensures _ c.in_ok-test.ensures c.answer.ensures

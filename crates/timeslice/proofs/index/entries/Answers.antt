@@ -1,7 +1,5 @@
 -- `entries` meets its contract: level 0 has an entry for each block opened, and each further level one for each page.
-use Rattle.std.proofs.Common.{◌≡◌, arith, ◌∙◌, ap}
-use Rattle.std.specs.Int.{div_ceil}
-use Rattle.calls.specs.Walk.{entries}
+use Rattle.std.proofs.Common.{◌≡◌, arith, ◌∙◌}
 use Rattle.timeslice.specs.SearchLaws.{entries_first, entries_more}
 use Rattle.timeslice.proofs.index.entries.Goals as goal
 

@@ -1,6 +1,5 @@
 -- `visit` and `visit_inside` meet their contracts: each way out of a link, and of the two visits inside a block, is a law of visits.
 use Rattle.std.proofs.Common.{arith}
-use Rattle.queries.specs.BlockLaws.{block_is}
 use Rattle.timeslice.specs.Reading.{unsound_is}
 use Rattle.timeslice.specs.ListedLaws.{visit_none, visit_low, visit_high, visit_ended, visit_goes, inside_stops, left_room, inside_goes}
 use Rattle.timeslice.proofs.past.Past.+visit.Goals as goal
@@ -16,28 +15,28 @@ visit-returns-then-upper-number t c = visit_high c.if-number-lower.false c.if-up
 
 pub visit-returns-then-closed-self : goal.visit-returns-then-closed-self
 visit-returns-then-closed-self t c =
-    visit_ended c.if-number-lower.false c.if-upper-number.false (block_is c.args.self.now.readable c.block-block.ensures)
+    visit_ended c.if-number-lower.false c.if-upper-number.false c.block-block.ensures.read
     c.block_word-closed.ensures c.if-closed-self.true
 
 pub visit-returns : goal.visit-returns
 visit-returns t c =
-    visit_goes c.if-number-lower.false c.if-upper-number.false (block_is c.args.self.now.readable c.block-block.ensures)
+    visit_goes c.if-number-lower.false c.if-upper-number.false c.block-block.ensures.read
     c.block_word-closed.ensures c.if-closed-self.false c.visit_inside.ensures
 
 -- ---- inside
 pub visit_inside-returns-in_err-after : goal.visit_inside-returns-in_err-after
 visit_inside-returns-in_err-after t c =
     rw (unsound_is c.from_residual.ensures.0)
-    (inside_stops c.requires (block_is c.args.self.now.readable c.block-block.ensures) c.block_word-child.ensures c.visit.ensures c.in_err-after.was)
+    (inside_stops c.requires c.block-block.ensures.read c.block_word-child.ensures c.visit.ensures c.in_err-after.was)
 
 pub visit_inside-visit-requires-2 : goal.visit_inside-visit-requires-2
 visit_inside-visit-requires-2 t c = (
   omega (arith, c.decreases, c.requires.low, c.requires.high),
-  left_room c.requires (block_is c.args.self.now.readable c.block-block.ensures) c.block_word-child.ensures c.visit.ensures c.in_ok-after.was
+  left_room c.requires c.block-block.ensures.read c.block_word-child.ensures c.visit.ensures c.in_ok-after.was
       c.visit.auto.list,
 )
 
 pub visit_inside-returns : goal.visit_inside-returns
 visit_inside-returns t c =
-    inside_goes c.requires (block_is c.args.self.now.readable c.block-block.ensures) c.block_word-child.ensures c.visit.ensures c.in_ok-after.was
+    inside_goes c.requires c.block-block.ensures.read c.block_word-child.ensures c.visit.ensures c.in_ok-after.was
     c.block_word-left.ensures c.visit-2.ensures

@@ -7,5 +7,5 @@ use Rattle.timeslice.proofs.past.Past.take_listed.Given as goal
 
 abbrev pub invariant-loop-number : goal.invariant-loop-number
 invariant-loop-number l =
-    Takes l.self.head.settings.tags l.initial.rows l.given
-    (rows_in l.self.head.settings.block l.self.second (reader_of l.self) (take l.number-index l.listed)) (Ok l.so_far) l.rows
+    Takes l.self.opened.head.settings.tags l.initial.rows l.given
+    (rows_in l.self.opened.head.settings.block l.self.second (reader_of l.self) (take l.number-index l.listed)) (Ok l.so_far) l.rows

@@ -6,4 +6,4 @@ use Rattle.timeslice.proofs.past.Past.take_rows.Given as goal
 
 abbrev pub invariant-loop-k : goal.invariant-loop-k
 invariant-loop-k l =
-    Takes l.self.head.settings.tags l.initial.rows l.given (rows_of l.k l.self.second l.block) (Ok l.so_far) l.rows
+    Takes l.self.opened.head.settings.tags l.initial.rows l.given (rows_of l.k l.self.second l.block) (Ok l.so_far) l.rows
