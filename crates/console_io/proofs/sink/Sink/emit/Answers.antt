@@ -1,7 +1,7 @@
--- `sink::emit` meets its contract: the line is written or compared.
+-- `Sink::emit` meets its contract: the line is written or compared.
 use Rattle.console_io.specs.SinkLaws.{emit_written, emit_equal, emit_other, emit_late, emit_picked}
 use borrow.Author.Rules.{rules}
-use Rattle.console_io.proofs.sink.emit.Goals as goal
+use Rattle.console_io.proofs.sink.Sink.emit.Goals as goal
 
 pub returns-in-Write : goal.returns-in-Write
 returns-in-Write c = emit_written c.in-Write.is
