@@ -1,31 +1,25 @@
 -- A session step by step: a byte, bytes by a count, a chunk, chunk after chunk, and the whole run. Rests on the lines' laws of console_run.
-use Rattle.std.specs.Prelude.{◌≡◌, true, false, List, [], ◌∷◌, ◌++◌, ℕ, ◌+◌, ◌≤◌, ◌<◌, ℤ, length, get_or, take, drop, replicate}
-use Rattle.std.proofs.Common.{sym, ap, ◌∙◌, subst, arith, add-one, drop_of_length-le, drop-cons}
-use Rattle.io.specs.Counts.{clamp_len}
-use Rattle.console_text.specs.Lines.{line_most}
+use Rattle.std.specs.Prelude.{◌≡◌, true, false, List, [], ◌∷◌, ◌++◌, ℕ, ◌+◌, ◌≤◌, ◌<◌, length, get_or, drop}
+use Rattle.std.proofs.Common.{sym, ◌∙◌, arith, add-one, drop_of_length-le, drop-cons}
 use Rattle.console_text.specs.Output.{output_names}
 use Rattle.console_run.specs.declared.feed.Console.{Console}
 use Rattle.console_run.specs.declared.feed.Step.{Step}
 use Rattle.console_run.specs.declared.turn.Said.{Said}
-use Rattle.console_run.specs.Console.{Lent, said_lines, missing, store_len, rows_len, list_len, blank}
-use Rattle.console_run.specs.Feed.{stepped, begun, fed, last_taken, is_over, ConsoleState, state_of, state, finish_lines, run_lines}
+use Rattle.console_run.specs.Console.{Lent, said_lines, missing, blank}
+use Rattle.console_run.specs.Feed.{stepped, begun, fed, last_taken, is_over, state, finish_lines, run_lines}
 use Rattle.console_run.specs.FeedLaws.{all_none, all_over, all_more, in_chunks, lines_none, lines_over, lines_more, prints_output}
 use Rattle.console_run.specs.SaidLaws.{lines_in_chunks}
 use Rattle.console_io.specs.declared.sink.Sink.{Sink}
-use Rattle.console_io.specs.declared.Session.{Session}
-use Rattle.console_io.specs.declared.Part.{Part}
-use Rattle.console_io.specs.declared.Part.TheVariants.{Fed, End}
-use Rattle.console_io.specs.Sinks.{Emitted, Sent, none, next}
+use Rattle.console_io.specs.Sinks.{Sent, none, next}
 use Rattle.console_io.specs.SinkLaws.{sent_on}
-use Rattle.console_io.specs.Session.{Running, running, FedByte, FedBytes, AfterRead, ReadSome, ReadAll, Ran}
+use Rattle.console_io.specs.Session.{Running, Begins, FedByte, FedBytes, FedRead, ReadAll, Ran}
 
 -- ---- bytes
 
 -- A step, and its lines.
-pub byte_fed : {c : Console} {line : List ℕ} {words : Lent} {x : ℕ} {r : Step} {line' store rows list : List ℕ} {a b : Sink}
-    → stepped r line' store rows list ≡ fed c line words x → Sent a (said_lines r.said r.number rows) b
-    → FedByte x (record { state = record { console = c; line = line; lent = words }; sink = a })
-    (record { state = state r.console line' store rows list; sink = b })
+pub byte_fed : {c after : Console} {words left : Lent} {x : ℕ} {r : Step} {a b : Sink}
+    → stepped r after left ≡ fed c words x → Sent a (said_lines r.said r.number left.rows) b
+    → FedByte x (record { state = state c words; sink = a }) (record { state = state after left; sink = b })
 byte_fed e s = record { reached = rw (← e); sent = rw (← e) s }
 
 -- No byte.
@@ -75,45 +69,28 @@ module _ {s t : Running} {input : List ℕ} {i : ℕ} (f : FedTo s input i t) wh
 
 -- ---- reads
 
--- A count, and what is fed by it, by another name.
-pub counted : {a b : ℤ} {n : ℕ} (chunk : List ℕ) → a ≡ b → n ≡ clamp_len a (length chunk) → n ≡ clamp_len b (length chunk)
-counted chunk e f = f ∙ ap (λ (z : ℤ). clamp_len z (length chunk)) e
-
-pub fed_counted : {s t : Running} {n m : ℕ} (chunk : List ℕ) → n ≡ m → FedBytes (take n chunk) s t → FedBytes (take m chunk) s t
-fed_counted chunk e f = rw (← e) f
-
 pub read_none : (s : Running) → ReadAll s s
 read_none s = record { input = []; fed = fed_nothing s }
 
-pub read_more : {s t u : Running} {chunk : List ℕ} → ReadAll s t → FedBytes chunk t u → ReadAll s u
-read_more {chunk} r f = record { input = r.input ++ chunk; fed = fed_on r.fed f }
-
-module _ {s t : Running} {chunk line store rows list : List ℕ} {r : Part} (h : ReadAll s t) (p : ReadSome chunk t r line store rows list) where
-  pub read_fed : {next : Session} → r ≡ Fed next → ReadAll s (running next line store rows list)
-  read_fed {next} e = read_more h (subst (λ (q : Part). AfterRead p.got chunk t q line store rows list) e p.fed.is)
-
-  pub read_end : r ≡ End → ReadAll s (record { state = state t.state.console line store rows list; sink = t.sink })
-  read_end e = rw (← (subst (λ (q : Part). AfterRead p.got chunk t q line store rows list) e p.fed.is).1) h
+pub read_more : {s t u : Running} {got : ℕ} {chunk : List ℕ} → ReadAll s t → FedRead got chunk t u → ReadAll s u
+read_more {chunk} r f = record { input = r.input ++ _; fed = fed_on r.fed f.fed }
 
 -- ---- the whole run
 
 -- At the end of the input: what the last line says, then a missing one.
-pub finished : (c : Console) (line : List ℕ) (words : Lent) {line' store rows list : List ℕ} {r : Step} {said : Said} {a b d : Sink}
-    → stepped r line' store rows list ≡ last_taken c line words → Sent a (said_lines r.said r.number rows) b
-    → said ≡ missing r.console.stage → Sent b (said_lines said r.console.number rows) d
-    → Sent a (finish_lines (record { console = c; line = line; lent = words })) d
+pub finished : (c : Console) (words : Lent) {after : Console} {left : Lent} {r : Step} {said : Said} {a b d : Sink}
+    → stepped r after left ≡ last_taken c words → Sent a (said_lines r.said r.number left.rows) b
+    → said ≡ missing after.stage → Sent b (said_lines said after.number left.rows) d
+    → Sent a (finish_lines (state c words)) d
 unfolding finish_lines
-finished c line words e s f t = rw (← e) (sent_on s (rw f at t))
+finished c words e s f t = rw (← e) (sent_on s (rw f at t))
 
 -- The names line, the bytes read, and the end of the input.
-pub ran : {a b c d : Sink} {console : Console} {line store rows list : List ℕ} {t : ConsoleState} → Emitted output_names a b
-    → ReadAll (record { state = state console line store rows list; sink = b }) (record { state = t; sink = c }) → Sent c (finish_lines t) d
-    → console ≡ begun → length line ≡ line_most → store ≡ replicate store_len 0 → rows ≡ replicate rows_len 0
-    → list ≡ replicate list_len 0 → Ran a d
-unfolding run_lines blank
-ran {line} n r f e h s w l = record {
+pub ran : {a d : Sink} {s t : Running} → Begins a s → ReadAll s t → Sent t.sink (finish_lines t.state) d → Ran a d
+unfolding run_lines
+ran n r f = record {
   input = r.input;
-  lines = output_names ∷ run_lines (state_of begun line blank) r.input;
-  sent = next n (sent_on (rw (e, s, w, l) at r.fed.sent) (rw (r.fed.reached, e, s, w, l) at f));
-  output = prints_output r.input line h;
+  lines = output_names ∷ run_lines (state begun blank) r.input;
+  sent = next n.sent (sent_on (rw n.begins at r.fed.sent) (rw (r.fed.reached, n.begins) at f));
+  output = prints_output r.input;
 }

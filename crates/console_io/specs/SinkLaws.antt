@@ -1,8 +1,6 @@
 -- Lines handed to a sink: one line that was printed, some after others, and all of them by a count.
-use Rattle.std.specs.Prelude.{◌≡◌, List, [], ◌++◌, ℕ, ◌+◌, ◌≤◌, ◌<◌, ◌-◌, ℤ, length, get_or, take, drop}
-use Rattle.std.proofs.Common.{arith, add-one, drop_of_length-le, drop-cons, le-ltb}
-use Rattle.std.proofs.Math.Seq.{take-append_seam}
-use Rattle.console_text.specs.Output.{line_room, printed_len, printed_bytes, Printed}
+use Rattle.std.specs.Prelude.{◌≡◌, List, [], ◌++◌, ℕ, ◌+◌, ◌≤◌, ◌<◌, ◌-◌, ℤ, length, get_or, drop, Some, None}
+use Rattle.std.proofs.Common.{arith, add-one, drop_of_length-le, drop-cons}
 use Rattle.console_run.specs.declared.turn.Said.{Said}
 use Rattle.console_run.specs.Console.{said_lines}
 use Rattle.console_run.specs.Feed.{next_number}
@@ -34,27 +32,20 @@ pub emit_as : {a b : Sink} {line same : List ℕ} → same ≡ line → Emitted 
 emit_as e h = rw (← e) h
 
 module _ {a : Sink} where
-  pub differs_unasked : {fd : ℤ} → a ≡ Write fd → FirstDifference a 0
+  pub differs_unasked : {fd : ℤ} → a ≡ Write fd → FirstDifference a None
   differs_unasked {fd} e = rw e (unasked fd)
 
-  pub differs_whole : {fd : ℤ} {n : ℕ} → a ≡ Compare fd n → FirstDifference a 0
+  pub differs_whole : {fd : ℤ} {n : ℕ} → a ≡ Compare fd n → FirstDifference a None
   differs_whole {fd} {n} e = rw e (whole fd n)
 
-  pub differs_short : {fd : ℤ} {n m : ℕ} → a ≡ Compare fd n → m ≡ next_number n → FirstDifference a m
+  pub differs_short : {fd : ℤ} {n m : ℕ} → a ≡ Compare fd n → m ≡ next_number n → FirstDifference a (Some m)
   differs_short {fd} {n} e f = rw (e, f) (short fd n)
 
-  pub differs_found : {n : ℕ} → a ≡ Differs n → FirstDifference a n
+  pub differs_found : {n : ℕ} → a ≡ Differs n → FirstDifference a (Some n)
   differs_found {n} e = rw e (found n)
 
-  pub differs_uncompared : {fd : ℤ} {n : ℕ} → a ≡ Pick fd n → FirstDifference a 0
+  pub differs_uncompared : {fd : ℤ} {n : ℕ} → a ≡ Pick fd n → FirstDifference a None
   differs_uncompared {fd} {n} e = rw e (uncompared fd n)
-
--- What is printed into a buffer with room is the line.
-pub printed_line : {text before after : List ℕ} {r : ℕ} → Printed text before r after → length before ≡ line_room → take r after ≡ text
-unfolding printed_len printed_bytes
-printed_line {text} {before} {after} {r} p e =
-    let f : line_room ≤ length before = omega arith in
-    rw (p.count, p.buffer, le-ltb (length before) line_room f) (take-append_seam text (drop (length text) before))
 
 -- Some lines, then others.
 pub sent_on : {a b c : Sink} {l m : List (List ℕ)} → Sent a l b → Sent b m c → Sent a (l ++ m) c

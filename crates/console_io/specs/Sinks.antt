@@ -1,6 +1,6 @@
 -- WHERE OUTPUT LINES GO: what a line that is handed to `emit` makes of a sink, and lines one after another. Which bytes a descriptor takes or
 -- gives no contract can say: of a compared line, that it was equal or not.
-use Rattle.std.specs.Prelude.{List, [], ◌∷◌, ℕ, ◌-◌, ℤ}
+use Rattle.std.specs.Prelude.{List, [], ◌∷◌, ℕ, ◌-◌, ℤ, Option, Some, None}
 use Rattle.console_run.specs.Feed.{next_number}
 use Rattle.console_io.specs.declared.sink.Sink.{Sink}
 use Rattle.console_io.specs.declared.sink.Sink.TheVariants.{Write, Compare, Differs, Pick}
@@ -18,10 +18,10 @@ pub data Sent : Sink → List (List ℕ) → Sink → Type 0 where
   none : {a : Sink} → Sent a [] a
   next : {a b c : Sink} {line : List ℕ} {more : List (List ℕ)} → Emitted line a b → Sent b more c → Sent a (line ∷ more) c
 
--- The first line that differs in a compared run, 0 if none does: whether an expected line is left only its descriptor tells.
-pub data FirstDifference : Sink → ℕ → Type 0 where
-  unasked : (fd : ℤ) → FirstDifference (Write fd) 0
-  whole : (fd : ℤ) (lines : ℕ) → FirstDifference (Compare fd lines) 0
-  short : (fd : ℤ) (lines : ℕ) → FirstDifference (Compare fd lines) (next_number lines)
-  found : (lines : ℕ) → FirstDifference (Differs lines) lines
-  uncompared : (fd : ℤ) (left : ℕ) → FirstDifference (Pick fd left) 0
+-- The first line that differs in a compared run, if one does: whether an expected line is left only its descriptor tells.
+pub data FirstDifference : Sink → Option ℕ → Type 0 where
+  unasked : (fd : ℤ) → FirstDifference (Write fd) None
+  whole : (fd : ℤ) (lines : ℕ) → FirstDifference (Compare fd lines) None
+  short : (fd : ℤ) (lines : ℕ) → FirstDifference (Compare fd lines) (Some (next_number lines))
+  found : (line : ℕ) → FirstDifference (Differs line) (Some line)
+  uncompared : (fd : ℤ) (left : ℕ) → FirstDifference (Pick fd left) None

@@ -1,6 +1,6 @@
 -- THE CONSOLE (document 01, "The console program"): what each input line does, what is printed for it, and the whole run, from the input's bytes
 -- to the output's. How a line reads and how an output line looks is console_text's; what a call does is `step` of calls.
-use Rattle.std.specs.Prelude.{Bool, true, false, cond, ◌&&◌, List, [], ◌∷◌, ◌++◌, ℕ, zero, suc, ◌+◌, ◌*◌, eqb, get_or, replicate}
+use Rattle.std.specs.Prelude.{cond, List, [], ◌∷◌, ◌++◌, ℕ, zero, suc, ◌+◌, ◌*◌, get_or, replicate, bytes_eq, Option, Some, None}
 use Rattle.layout.specs.Sizes.{row_len}
 use Rattle.layout.specs.Settings.{settings_of}
 use Rattle.calls.specs.Step.{step}
@@ -9,8 +9,6 @@ use Rattle.applying.specs.declared.call.Call.TheVariants as call
 use Rattle.applying.specs.declared.call.Answer.{Answer}
 use Rattle.applying.specs.declared.call.Answer.TheVariants.{Done, Shown, Refused}
 use Rattle.applying.specs.Applied.{call_of, answer_of, buffers_after}
-use Rattle.console_text.specs.declared.parse.Numbers.{Numbers}
-use Rattle.console_text.specs.declared.parse.Numbers.TheVariants as numbers
 use Rattle.console_text.specs.declared.parse.Line.{Line}
 use Rattle.console_text.specs.declared.parse.Line.TheVariants as change
 use Rattle.console_text.specs.Input.{settings_names, settings_line, change_names, change_line}
@@ -21,8 +19,6 @@ use Rattle.console_run.specs.declared.turn.Stage.TheVariants.{SettingsNames, Set
 use Rattle.console_run.specs.declared.turn.Said.{Said}
 use Rattle.console_run.specs.declared.turn.Said.TheVariants.{Nothing, Bad, No, Slice}
 use Rattle.console_run.specs.declared.turn.Turn.{Turn}
-use Rattle.console_run.specs.declared.turn.LineAsks.{LineAsks}
-use Rattle.console_run.specs.declared.turn.LineAsks.TheVariants as asked
 
 -- ---- what a line does
 
@@ -40,11 +36,8 @@ pub record Does : Type 0 where
   pub turn : Turn
   pub lent : Lent
 
-abbrev pub does : Turn → List ℕ → List ℕ → List ℕ → Does
-does turn store rows list = record { turn = turn; lent = lent store rows list }
-
-abbrev pub only : Turn → Lent → Does
-only turn words = record { turn = turn; lent = words }
+abbrev pub does : Turn → Lent → Does
+does turn words = record { turn = turn; lent = words }
 
 abbrev pub says : Stage → Said → Turn
 says next said = record { next = next; said = said }
@@ -57,15 +50,9 @@ bad_at ChangeNames = says Over Bad
 bad_at Changes = says Changes Bad
 bad_at Over = says Over Nothing
 
-unfoldable pub same_bytes : List ℕ → List ℕ → Bool
-same_bytes [] [] = true
-same_bytes [] (y ∷ m) = false
-same_bytes (x ∷ l) [] = false
-same_bytes (x ∷ l) (y ∷ m) = eqb x y && same_bytes l m
-
 -- "Each names line must stand exactly so."
-unfoldable pub names_do : Stage → Stage → List ℕ → List ℕ → Turn
-names_do stage next names text = cond (same_bytes text names) (says next Nothing) (bad_at stage)
+abbrev pub names_do : Stage → Stage → List ℕ → List ℕ → Turn
+names_do stage next names text = cond (bytes_eq text names) (says next Nothing) (bad_at stage)
 
 -- A call's answer at a time. Accepted changes and clock moves print nothing; a look-back prints rows and sum, a refused call `no`.
 abbrev pub answered : Stage → Stage → ℕ → Answer → Turn
@@ -78,36 +65,35 @@ unfoldable pub called : Stage → Stage → ℕ → Call → Lent → Does
 called done refused time call words =
     let reply = step words.store (call_of call words.rows words.list) in
     let after = buffers_after call words.rows words.list reply.lent in
-    does (answered done refused time (answer_of reply.answer)) reply.store (get_or after 0 []) (get_or after 1 [])
+    does (answered done refused time (answer_of reply.answer)) (lent reply.store (get_or after 0 []) (get_or after 1 []))
 
 -- "Start is called before the third line is read; refused, it prints `no` at time 0 and ends the run."
-unfoldable pub settings_do : Numbers → Lent → Does
-settings_do (numbers.Four b q blocks tags) words = called ChangeNames Over 0 (call.Start (settings_of b q blocks tags)) words
-settings_do numbers.Bad words = only (bad_at Settings) words
+abbrev pub settings_do : Option (ℕ × ℕ × ℕ × ℕ) → Lent → Does
+settings_do (Some (b, q, blocks, tags)) words = called ChangeNames Over 0 (call.Start (settings_of b q blocks tags)) words
+settings_do None words = does (bad_at Settings) words
 
--- "Signs: + set, - clear, = new reading, . clock, ? look back"
-abbrev pub asked_of : Line → LineAsks
-asked_of (change.Set time tag reading) = asked.Call time (call.Set time tag reading)
-asked_of (change.Clear time tag) = asked.Call time (call.Clear time tag)
-asked_of (change.Update time tag reading) = asked.Call time (call.Update time tag reading)
-asked_of (change.Advance time) = asked.Call time (call.Advance time)
-asked_of (change.LookBack time) = asked.Call time (call.LookBack time)
-asked_of change.Bad = asked.Bad
+-- "Signs: + set, - clear, = new reading, . clock, ? look back": a change's time, and its call
+abbrev pub asked_of : Line → ℕ × Call
+asked_of (change.Set time tag reading) = (time, call.Set time tag reading)
+asked_of (change.Clear time tag) = (time, call.Clear time tag)
+asked_of (change.Update time tag reading) = (time, call.Update time tag reading)
+asked_of (change.Advance time) = (time, call.Advance time)
+asked_of (change.LookBack time) = (time, call.LookBack time)
 
-unfoldable pub change_do : LineAsks → Lent → Does
-change_do (asked.Call time call) words = called Changes Changes time call words
-change_do asked.Bad words = only (bad_at Changes) words
+abbrev pub change_do : Option Line → Lent → Does
+change_do (Some line) words = called Changes Changes (asked_of line).0 (asked_of line).1 words
+change_do None words = does (bad_at Changes) words
 
-unfoldable pub text_does : Stage → List ℕ → Lent → Does
-text_does SettingsNames text words = only (names_do SettingsNames Settings settings_names text) words
+abbrev pub text_does : Stage → List ℕ → Lent → Does
+text_does SettingsNames text words = does (names_do SettingsNames Settings settings_names text) words
 text_does Settings text words = settings_do (settings_line text) words
-text_does ChangeNames text words = only (names_do ChangeNames Changes change_names text) words
-text_does Changes text words = change_do (asked_of (change_line text)) words
-text_does Over text words = only (bad_at Over) words
+text_does ChangeNames text words = does (names_do ChangeNames Changes change_names text) words
+text_does Changes text words = change_do (change_line text) words
+text_does Over text words = does (bad_at Over) words
 
-unfoldable pub line_does : Stage → Text → Lent → Does
+abbrev pub line_does : Stage → Text → Lent → Does
 line_does stage (whole text) words = text_does stage text words
-line_does stage too_long words = only (bad_at stage) words
+line_does stage too_long words = does (bad_at stage) words
 
 -- ---- what is printed
 

@@ -1,28 +1,24 @@
 -- THE CONSOLE BYTE BY BYTE, as a program runs it: each byte is fed, a complete line is taken, and at the end come the last line and a missing one.
-use Rattle.std.specs.Prelude.{Bool, true, false, cond, List, [], ◌∷◌, ◌++◌, ℕ, ◌+◌, ltb}
-use Rattle.console_text.specs.declared.gather.Gather.{Gather}
-use Rattle.console_text.specs.declared.gather.Fed.{Fed}
-use Rattle.console_text.specs.declared.gather.Fed.TheVariants.{More, LineEnd}
-use Rattle.console_text.specs.Lines.{new_line, left_over, fed_answer, fed_line, line_text}
+use Rattle.std.specs.Prelude.{Bool, true, false, cond, List, [], ◌∷◌, ◌++◌, ℕ, ◌+◌, ltb, Option, Some, None}
+use Rattle.console_text.specs.Lines.{Text, new_line, left_over, fed_answer, fed_next}
 use Rattle.console_run.specs.declared.turn.Stage.{Stage}
 use Rattle.console_run.specs.declared.turn.Stage.TheVariants.{SettingsNames, Settings, ChangeNames, Changes, Over}
 use Rattle.console_run.specs.declared.turn.Said.TheVariants.{Nothing}
-use Rattle.console_run.specs.declared.turn.Turn.{Turn}
 use Rattle.console_run.specs.declared.feed.Console.{Console}
 use Rattle.console_run.specs.declared.feed.Step.{Step}
-use Rattle.console_run.specs.Console.{Lent, lent, line_does, said_lines, joined, missing}
+use Rattle.console_run.specs.Console.{Lent, line_does, said_lines, joined, missing}
 
--- A step, with the line's buffer and the lent words after it.
+-- A step, with the console and the lent words after it.
 pub record Stepped : Type 0 where
   pub step : Step
-  pub line : List ℕ
+  pub console : Console
   pub lent : Lent
 
-abbrev pub stepped : Step → List ℕ → List ℕ → List ℕ → List ℕ → Stepped
-stepped step line store rows list = record { step = step; line = line; lent = lent store rows list }
+abbrev pub stepped : Step → Console → Lent → Stepped
+stepped step console words = record { step = step; console = console; lent = words }
 
 -- Before the first byte.
-unfoldable pub begun : Console
+abbrev pub begun : Console
 begun = record { stage = SettingsNames; gather = new_line; number = 1 }
 
 -- 64 bits hold the count of every input's lines.
@@ -32,36 +28,30 @@ count_most = 18446744073709551615
 unfoldable pub next_number : ℕ → ℕ
 next_number number = cond (ltb number count_most) (number + 1) number
 
--- After the line `number`: a new line is awaited.
-abbrev pub passed : Turn → ℕ → Step
-passed turn number = record {
-  console = record { stage = turn.next; gather = new_line; number = next_number number };
-  said = turn.said;
-  number = number;
-}
+-- No line is complete: the console goes on as it is.
+abbrev pub goes_on : Console → Step
+goes_on c = record { said = Nothing; number = c.number }
 
--- No line is complete: it goes on with what is gathered.
-abbrev pub goes_on : Console → Gather → Step
-goes_on c gather = record { console = record { stage = c.stage; gather = gather; number = c.number }; said = Nothing; number = c.number }
+abbrev pub quiet : Console → Lent → Stepped
+quiet c words = stepped (goes_on c) c words
 
--- The line that was gathered is complete.
-unfoldable pub taken : Console → List ℕ → Lent → Stepped
+-- This line is complete: what is said of it, by its number, and the next is awaited.
+unfoldable pub taken : Console → Text → Lent → Stepped
 taken c line words =
-    let d = line_does c.stage (line_text c.gather line) words in
-    record { step = passed d.turn c.number; line = line; lent = d.lent }
+    let d = line_does c.stage line words in
+    stepped (record { said = d.turn.said; number = c.number }) (record c { stage = d.turn.next; number = next_number c.number }) d.lent
 
 -- What a byte does: the line goes on, or it is complete.
-unfoldable pub fed_by : Fed → Console → List ℕ → Lent → Stepped
-fed_by (More longer) c line words = record { step = goes_on c longer; line = line; lent = words }
-fed_by LineEnd c line words = taken c line words
+unfoldable pub fed_by : Option Text → Console → Lent → Stepped
+fed_by None c words = quiet c words
+fed_by (Some line) c words = taken c line words
 
-unfoldable pub fed : Console → List ℕ → Lent → ℕ → Stepped
-fed c line words x = fed_by (fed_answer c.gather x) c (fed_line c.gather line x) words
+unfoldable pub fed : Console → Lent → ℕ → Stepped
+fed c words x = fed_by (fed_answer c.gather x) (record c { gather = fed_next c.gather x }) words
 
 -- At the end of the input: the last line, if there is one that lacks its newline.
-unfoldable pub last_taken : Console → List ℕ → Lent → Stepped
-last_taken c line words = cond (left_over c.gather) (taken c line words)
-    (record { step = goes_on c c.gather; line = line; lent = words })
+unfoldable pub last_taken : Console → Lent → Stepped
+last_taken c words = cond (left_over c.gather) (taken (record c { gather = new_line }) c.gather words) (quiet c words)
 
 -- ---- a program's loop
 
@@ -72,23 +62,19 @@ is_over ChangeNames = false
 is_over Changes = false
 is_over Over = true
 
--- The console between two bytes, with the line's buffer and the lent words.
+-- The console between two bytes, with the lent words.
 pub record ConsoleState : Type 0 where
   pub console : Console
-  pub line : List ℕ
   pub lent : Lent
 
-abbrev pub state_of : Console → List ℕ → Lent → ConsoleState
-state_of c line words = record { console = c; line = line; lent = words }
-
-abbrev pub state : Console → List ℕ → List ℕ → List ℕ → List ℕ → ConsoleState
-state c line store rows list = state_of c line (lent store rows list)
+abbrev pub state : Console → Lent → ConsoleState
+state c words = record { console = c; lent = words }
 
 -- A byte more.
 abbrev pub after_byte : ConsoleState → ℕ → ConsoleState
 after_byte s x =
-    let f = fed s.console s.line s.lent x in
-    record { console = f.step.console; line = f.line; lent = f.lent }
+    let f = fed s.console s.lent x in
+    state f.console f.lent
 
 -- After these bytes. None is fed once the run is over.
 unfoldable pub fed_all : ConsoleState → List ℕ → ConsoleState
@@ -108,13 +94,13 @@ step_bytes s = joined (step_lines s)
 unfoldable pub fed_lines : ConsoleState → List ℕ → List (List ℕ)
 fed_lines s [] = []
 fed_lines s (x ∷ more) =
-    cond (is_over s.console.stage) [] (step_lines (fed s.console s.line s.lent x) ++ fed_lines (after_byte s x) more)
+    cond (is_over s.console.stage) [] (step_lines (fed s.console s.lent x) ++ fed_lines (after_byte s x) more)
 
 -- Those at the end of the input: of the last line, then of a missing one.
 unfoldable pub finish_lines : ConsoleState → List (List ℕ)
 finish_lines s =
-    let t = last_taken s.console s.line s.lent in
-    step_lines t ++ said_lines (missing t.step.console.stage) t.step.console.number t.lent.rows
+    let t = last_taken s.console s.lent in
+    step_lines t ++ said_lines (missing t.console.stage) t.console.number t.lent.rows
 
 -- Those for an input from here on, by a program that feeds the bytes in order until the run is over, prints what each step says, and then finishes.
 unfoldable pub run_lines : ConsoleState → List ℕ → List (List ℕ)

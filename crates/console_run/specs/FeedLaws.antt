@@ -1,49 +1,16 @@
--- Steps put together from what the functions they call ensure; and THE CONSOLE BYTE BY BYTE PRINTS THE CONSOLE'S OUTPUT.
-use Rattle.std.specs.Prelude.{◌≡◌, refl, Bool, true, false, List, [], ◌∷◌, ◌++◌, ℕ, suc, ◌+◌, ◌<◌, length}
+-- THE CONSOLE BYTE BY BYTE PRINTS THE CONSOLE'S OUTPUT.
+use Rattle.std.specs.Prelude.{◌≡◌, refl, true, false, cond, List, [], ◌∷◌, ◌++◌, ℕ, suc, ◌+◌, ◌<◌, length}
 use Rattle.std.proofs.Common.{sym, ap, ◌∙◌, append_assoc, arith, add-one, lt-ltb, eq-eqb, ne_eqb}
-use Rattle.std.proofs.Math.Bool.{cond}
 use Rattle.base.specs.Branch.{by_test, is?}
-use Rattle.console_text.specs.declared.gather.Gather.{Gather}
-use Rattle.console_text.specs.declared.gather.Fed.{Fed}
-use Rattle.console_text.specs.declared.gather.Fed.TheVariants.{More, LineEnd}
-use Rattle.console_text.specs.Lines.{line_most, Text, whole, too_long, new_line, left_over, grown, fed_answer, fed_line, Feeds, line_text, gathered}
+use Rattle.console_text.specs.Lines.{Text, whole, too_long, new_line, left_over, grown, gathered}
 use Rattle.console_text.specs.LinesLaws.{gathered_end, gathered_on, gathered_lines}
 use Rattle.console_text.specs.Output.{output_names}
 use Rattle.console_run.specs.declared.turn.Stage.{Stage}
 use Rattle.console_run.specs.declared.turn.Stage.TheVariants.{SettingsNames, Settings, ChangeNames, Changes, Over}
 use Rattle.console_run.specs.declared.turn.Said.TheVariants.{Nothing}
-use Rattle.console_run.specs.declared.turn.Turn.{Turn}
 use Rattle.console_run.specs.declared.feed.Console.{Console}
-use Rattle.console_run.specs.declared.feed.Step.{Step}
-use Rattle.console_run.specs.Console.{Lent, does, text_does, line_does, said_lines, joined, said_bytes, missing, console_from, blank, console_output}
-use Rattle.console_run.specs.Feed.{Stepped, stepped, begun, count_most, next_number, passed, goes_on, taken, fed_by, fed, last_taken, is_over, ConsoleState, state_of, after_byte, fed_all, step_lines, step_bytes, fed_lines, finish_lines, run_lines}
-
--- ---- a step
-module _ (c : Console) (line : List ℕ) (words : Lent) where
-  pub taken_is : {turn : Turn} {store rows list : List ℕ} {r : Step}
-      → does turn store rows list ≡ line_does c.stage (line_text c.gather line) words → r ≡ passed turn c.number
-      → stepped r line store rows list ≡ taken c line words
-  unfolding taken
-  taken_is e f = rw (f, ← e)
-
-  pub fed_on : {x : ℕ} {a : Fed} {after : List ℕ} {longer : Gather} {r : Step} → Feeds c.gather line x a after → a ≡ More longer
-      → r ≡ goes_on c longer → record { step = r; line = after; lent = words } ≡ fed c line words x
-  unfolding fed fed_by
-  fed_on f e g = rw (g, f.buffer, ← f.answer, e)
-
-  pub fed_taken : {x : ℕ} {r : Fed} {after : List ℕ} {s : Stepped} → Feeds c.gather line x r after → r ≡ LineEnd
-      → s ≡ taken c after words → s ≡ fed c line words x
-  unfolding fed fed_by
-  fed_taken f e g = g ∙ rw (f.buffer, ← f.answer, e)
-
-  pub last_taken_lem : {b : Bool} {s : Stepped} → b ≡ left_over c.gather → b ≡ true → s ≡ taken c line words → s ≡ last_taken c line words
-  unfolding last_taken
-  last_taken_lem e f g = g ∙ rw (← e, f)
-
-  pub last_quiet : {b : Bool} {r : Step} → b ≡ left_over c.gather → b ≡ false → r ≡ goes_on c c.gather
-      → record { step = r; line = line; lent = words } ≡ last_taken c line words
-  unfolding last_taken
-  last_quiet e f g = rw (g, ← e, f)
+use Rattle.console_run.specs.Console.{Lent, line_does, said_lines, joined, said_bytes, missing, console_from, blank, console_output}
+use Rattle.console_run.specs.Feed.{begun, count_most, next_number, quiet, taken, fed_by, fed, last_taken, is_over, ConsoleState, state, after_byte, fed_all, step_lines, step_bytes, fed_lines, finish_lines, run_lines}
 
 -- ---- bytes, one after another
 
@@ -79,7 +46,7 @@ lines_over s [] e = refl
 lines_over s (x ∷ more) e = rw e
 
 pub lines_more : (s : ConsoleState) (x : ℕ) (more : List ℕ) → is_over s.console.stage ≡ false
-    → fed_lines s (x ∷ more) ≡ step_lines (fed s.console s.line s.lent x) ++ fed_lines (after_byte s x) more
+    → fed_lines s (x ∷ more) ≡ step_lines (fed s.console s.lent x) ++ fed_lines (after_byte s x) more
 unfolding fed_lines
 lines_more s x more e = rw e
 
@@ -98,10 +65,10 @@ unfolding run_lines
 run_none s = rw (lines_none s, all_none s)
 
 run_more : (s : ConsoleState) (x : ℕ) (more : List ℕ) → is_over s.console.stage ≡ false
-    → joined (run_lines s (x ∷ more)) ≡ step_bytes (fed s.console s.line s.lent x) ++ joined (run_lines (after_byte s x) more)
+    → joined (run_lines s (x ∷ more)) ≡ step_bytes (fed s.console s.lent x) ++ joined (run_lines (after_byte s x) more)
 unfolding run_lines
 run_more s x more e =
-    let step = step_lines (fed s.console s.line s.lent x) in
+    let step = step_lines (fed s.console s.lent x) in
     let next = after_byte s x in
     rw (lines_more s x more e, all_more s x more e)
     (ap joined (append_assoc step (fed_lines next more) (finish_lines (fed_all next more)))
@@ -111,7 +78,6 @@ run_more s x more e =
 
 -- Once it is over, nothing is said of any line.
 over_said : (text : Text) (words : Lent) → line_does Over text words ≡ record { turn = record { next = Over; said = Nothing }; lent = words }
-unfolding line_does text_does
 over_said (whole text) words = refl
 over_said too_long words = refl
 
@@ -141,35 +107,34 @@ unfolding next_number
 next_is number h = rw (lt-ltb number count_most h, add-one number)
 
 -- A line that is taken is said and passed.
-module _ (c : Console) (line : List ℕ) (words : Lent) (h : c.number < count_most) where
+module _ (c : Console) (line : Text) (words : Lent) (h : c.number < count_most) where
   taken_from : (more : List Text)
       → step_bytes (taken c line words)
-      ++ console_from (taken c line words).step.console.stage (taken c line words).lent (taken c line words).step.console.number more
-      ≡ console_from c.stage words c.number (line_text c.gather line ∷ more)
+      ++ console_from (taken c line words).console.stage (taken c line words).lent (taken c line words).console.number more
+      ≡ console_from c.stage words c.number (line ∷ more)
   unfolding taken
-  taken_from more = rw (next_is c.number h) (sym (from_more c.stage words c.number (line_text c.gather line) more))
+  taken_from more = rw (next_is c.number h) (sym (from_more c.stage words c.number line more))
 
-  finished : joined (finish_lines (state_of c line words)) ≡ console_from c.stage words c.number (gathered c.gather line [])
-  unfolding finish_lines last_taken gathered
-  finished = by_test (left_over c.gather)
-      (λ b. let s = cond b (taken c line words) (record { step = goes_on c c.gather; line = line; lent = words }) in
-      joined (step_lines s ++ said_lines (missing s.step.console.stage) s.step.console.number s.lent.rows)
-      ≡ console_from c.stage words c.number (cond b (line_text c.gather line ∷ []) []))
-      (λ e. let s = taken c line words in
-      joined_append (step_lines s) (said_lines (missing s.step.console.stage) s.step.console.number s.lent.rows)
-      ∙ rw (← from_none s.step.console.stage s.lent s.step.console.number) (taken_from []))
-      (λ e. joined_append (said_lines Nothing c.number words.rows) (said_lines (missing c.stage) c.number words.rows)
-      ∙ rw (nothing_said c.number words.rows, from_none c.stage words c.number))
+finished : (c : Console) (words : Lent) → c.number < count_most → joined (finish_lines (state c words)) ≡ console_from c.stage words c.number (gathered c.gather [])
+unfolding finish_lines last_taken gathered
+finished c words h = by_test (left_over c.gather)
+    (λ b. let s = cond b (taken (record c { gather = new_line }) c.gather words) (quiet c words) in
+    joined (step_lines s ++ said_lines (missing s.console.stage) s.console.number s.lent.rows)
+    ≡ console_from c.stage words c.number (cond b (c.gather ∷ []) []))
+    (λ e. let s = taken (record c { gather = new_line }) c.gather words in
+    joined_append (step_lines s) (said_lines (missing s.console.stage) s.console.number s.lent.rows)
+    ∙ rw (← from_none s.console.stage s.lent s.console.number) (taken_from (record c { gather = new_line }) c.gather words h []))
+    (λ e. joined_append (said_lines Nothing c.number words.rows) (said_lines (missing c.stage) c.number words.rows)
+    ∙ rw (nothing_said c.number words.rows, from_none c.stage words c.number))
 
 -- A newline completes the line, and any other byte goes on with it.
-module _ (c : Console) (line : List ℕ) (words : Lent) (x : ℕ) where
-  fed_newline : x ≡ 10 → fed c line words x ≡ taken c line words
-  unfolding fed fed_by fed_answer fed_line
+module _ (c : Console) (words : Lent) (x : ℕ) where
+  fed_newline : x ≡ 10 → fed c words x ≡ taken (record c { gather = new_line }) c.gather words
+  unfolding fed fed_by
   fed_newline e = rw (eq-eqb x 10 e)
 
-  fed_other : (x ≡ 10 → ⊥)
-      → fed c line words x ≡ record { step = goes_on c (grown c.gather); line = fed_line c.gather line x; lent = words }
-  unfolding fed fed_by fed_answer
+  fed_other : (x ≡ 10 → ⊥) → fed c words x ≡ quiet (record c { gather = grown c.gather x }) words
+  unfolding fed fed_by
   fed_other n = rw (ne_eqb x 10 n)
 
 over? : {P : Type 0} (stage : Stage) → (stage ≡ Over → P) → (is_over stage ≡ false → P) → P
@@ -181,43 +146,43 @@ over? Over f g = f refl
 
 -- From a place of the input on, the bytes' steps print what the lines that they end do.
 abbrev Prints : List ℕ → Type 0
-Prints input = (c : Console) (line : List ℕ) (words : Lent) → c.number + length input < count_most
-    → joined (run_lines (state_of c line words) input) ≡ console_from c.stage words c.number (gathered c.gather line input)
+Prints input = (c : Console) (words : Lent) → c.number + length input < count_most
+    → joined (run_lines (state c words) input) ≡ console_from c.stage words c.number (gathered c.gather input)
 
-module _ (x : ℕ) (more : List ℕ) (rest : Prints more) (c : Console) (line : List ℕ) (words : Lent) (h : c.number + suc (length more) < count_most) where
-  prints_over : c.stage ≡ Over → joined (run_lines (state_of c line words) (x ∷ more)) ≡ console_from c.stage words c.number (gathered c.gather line (x ∷ more))
-  prints_over e = run_over (state_of c line words) (x ∷ more) (ap is_over e) ∙ finished c line words (omega arith)
-      ∙ rw (e, over_from words c.number (gathered c.gather line []), over_from words c.number (gathered c.gather line (x ∷ more)))
+module _ (x : ℕ) (more : List ℕ) (rest : Prints more) (c : Console) (words : Lent) (h : c.number + suc (length more) < count_most) where
+  prints_over : c.stage ≡ Over → joined (run_lines (state c words) (x ∷ more)) ≡ console_from c.stage words c.number (gathered c.gather (x ∷ more))
+  prints_over e = run_over (state c words) (x ∷ more) (ap is_over e) ∙ finished c words (omega arith)
+      ∙ rw (e, over_from words c.number (gathered c.gather []), over_from words c.number (gathered c.gather (x ∷ more)))
 
-  taken_rest : let s = taken c line words in
-      joined (run_lines (state_of s.step.console s.line s.lent) more)
-      ≡ console_from s.step.console.stage s.lent s.step.console.number (gathered new_line line more)
+  taken_rest : let s = taken (record c { gather = new_line }) c.gather words in
+      joined (run_lines (state s.console s.lent) more) ≡ console_from s.console.stage s.lent s.console.number (gathered new_line more)
   unfolding taken
-  taken_rest = rest (taken c line words).step.console line (taken c line words).lent (omega (arith, next_is c.number (omega arith)))
+  taken_rest =
+      let s = taken (record c { gather = new_line }) c.gather words in rest s.console s.lent (omega (arith, next_is c.number (omega arith)))
 
   -- A byte's step and what follows it.
   abbrev Goes : Type 0
-  Goes = step_bytes (fed c line words x) ++ joined (run_lines (after_byte (state_of c line words) x) more)
-      ≡ console_from c.stage words c.number (gathered c.gather line (x ∷ more))
+  Goes = step_bytes (fed c words x) ++ joined (run_lines (after_byte (state c words) x) more)
+      ≡ console_from c.stage words c.number (gathered c.gather (x ∷ more))
 
   prints_newline : x ≡ 10 → Goes
-  prints_newline e = rw (fed_newline c line words x e, gathered_end c.gather line x more e, taken_rest)
-      (taken_from c line words (omega arith) (gathered new_line line more))
+  prints_newline e = rw (fed_newline c words x e, gathered_end c.gather x more e, taken_rest)
+      (taken_from (record c { gather = new_line }) c.gather words (omega arith) (gathered new_line more))
 
   prints_other : (x ≡ 10 → ⊥) → Goes
-  prints_other n = rw (fed_other c line words x n, gathered_on c.gather line x more n, nothing_said c.number words.rows)
-      (rest (record { stage = c.stage; gather = grown c.gather; number = c.number }) (fed_line c.gather line x) words (omega arith))
+  prints_other n = rw (fed_other c words x n, gathered_on c.gather x more n, nothing_said c.number words.rows)
+      (rest (record c { gather = grown c.gather x }) words (omega arith))
 
-  prints_more : joined (run_lines (state_of c line words) (x ∷ more)) ≡ console_from c.stage words c.number (gathered c.gather line (x ∷ more))
-  prints_more = over? c.stage prints_over (λ e. run_more (state_of c line words) x more e ∙ is? x 10 prints_newline prints_other)
+  prints_more : joined (run_lines (state c words) (x ∷ more)) ≡ console_from c.stage words c.number (gathered c.gather (x ∷ more))
+  prints_more = over? c.stage prints_over (λ e. run_more (state c words) x more e ∙ is? x 10 prints_newline prints_other)
 
 prints : (input : List ℕ) → Prints input
-prints [] c line words h = run_none (state_of c line words) ∙ finished c line words (omega arith)
-prints (x ∷ more) c line words h = prints_more x more (prints more) c line words h
+prints [] c words h = run_none (state c words) ∙ finished c words (omega arith)
+prints (x ∷ more) c words h = prints_more x more (prints more) c words h
 
 -- A PROGRAM THAT PRINTS THE NAMES LINE, FEEDS THE BYTES IN ORDER UNTIL THE RUN IS OVER, PRINTS WHAT EACH STEP SAYS, AND THEN FINISHES, PRINTS THE
--- CONSOLE'S OUTPUT, whatever the line's buffer held. (64 bits count the lines.)
-pub prints_output : (input line : List ℕ) → length line ≡ line_most → 1 + length input < count_most
-    → joined (output_names ∷ run_lines (state_of begun line blank) input) ≡ console_output input
-unfolding joined begun console_output
-prints_output input line e h = rw (prints input begun line blank h, gathered_lines input line e)
+-- CONSOLE'S OUTPUT. (64 bits count the lines.)
+pub prints_output : (input : List ℕ) → 1 + length input < count_most
+    → joined (output_names ∷ run_lines (state begun blank) input) ≡ console_output input
+unfolding joined console_output
+prints_output input h = rw (prints input begun blank h, gathered_lines input)

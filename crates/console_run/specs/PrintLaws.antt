@@ -6,9 +6,7 @@ use Rattle.std.proofs.lemmas.List.{get_or_at}
 use Rattle.std.proofs.lemmas.Bool.{lt-leb}
 use Rattle.base.specs.Branch.{lt?}
 use Rattle.layout.specs.Sizes.{row_len}
-use Rattle.console_text.specs.Output.{row_line, sum_line, no_line, bad_line, line_room, Printed}
-use Rattle.console_text.specs.PieceLaws.{piece_none}
-use Rattle.console_text.specs.OutputLaws.{printed_not, printed}
+use Rattle.console_text.specs.Output.{row_line, sum_line, no_line, bad_line}
 use Rattle.console_run.specs.declared.turn.Said.{Said}
 use Rattle.console_run.specs.declared.turn.Said.TheVariants.{Nothing, Bad, No, Slice}
 use Rattle.console_run.specs.Console.{row_line_at, row_lines, said_lines}
@@ -21,7 +19,7 @@ line_count (No time refusal) = 1
 line_count (Slice time count blocks) = count + 1
 
 -- A look-back's i-th line.
-unfoldable pub slice_line : ℕ → ℕ → ℕ → List ℕ → ℕ → List ℕ
+abbrev pub slice_line : ℕ → ℕ → ℕ → List ℕ → ℕ → List ℕ
 slice_line time count blocks rows i = cond (leb count i) (sum_line time count blocks) (row_line_at time rows i)
 
 -- ---- rows
@@ -69,16 +67,6 @@ slice_at time count blocks number rows i h = lt? i count
   where
     first : (i : ℕ) → 0 + i ≡ i
     first i = omega arith
-
--- ---- printed
-
--- Nothing is printed.
-pub printed_nothing : (before : List ℕ) → Printed [] before 0 before
-printed_nothing before = lt? (length before) line_room (printed_not [] before) (λ h. printed h (piece_none before 0 (omega arith)))
-
--- The same line by another name.
-pub printed_as : {text same before after : List ℕ} {r : ℕ} → text ≡ same → Printed same before r after → Printed text before r after
-printed_as e p = rw e p
 
 -- The look-back's i-th line is the sum or a row.
 module _ (time count blocks : ℕ) (rows : List ℕ) (i : ℕ) where

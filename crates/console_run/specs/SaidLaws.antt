@@ -12,7 +12,7 @@ lines_in_chunks s [] more = rw (lines_none s, all_none s)
 lines_in_chunks s (x ∷ chunk) more = by_test (is_over s.console.stage)
     (λ b. fed_lines s (x ∷ (chunk ++ more)) ≡ fed_lines s (x ∷ chunk) ++ fed_lines (fed_all s (x ∷ chunk)) more)
     (λ e. rw (lines_over s (x ∷ (chunk ++ more)) e, lines_over s (x ∷ chunk) e, all_over s (x ∷ chunk) e, lines_over s more e))
-    (λ e. let step = step_lines (fed s.console s.line s.lent x) in
+    (λ e. let step = step_lines (fed s.console s.lent x) in
     rw (lines_more s x (chunk ++ more) e, lines_more s x chunk e, all_more s x chunk e)
     (ap (λ (l : List (List ℕ)). step ++ l) (lines_in_chunks (after_byte s x) chunk more)
     ∙ sym (append_assoc step (fed_lines (after_byte s x) chunk) (fed_lines (fed_all (after_byte s x) chunk) more))))

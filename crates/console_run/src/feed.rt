@@ -1,14 +1,16 @@
 // The console byte by byte: a program feeds the input's bytes in order and prints what each step says; at the end of the input it asks for the
 // last line, which may lack its newline, and then for a missing one.
 ghost use Rattle.std.specs.Prelude.{◌≡◌};
-ghost use Rattle.console_run.specs.Console.{lent};
-ghost use Rattle.console_run.specs.Feed.{stepped, begun, next_number, passed, goes_on, taken, fed, last_taken};
+ghost use Rattle.console_run.specs.Words.{lent_of, SameLent};
+ghost use Rattle.console_run.specs.Feed.{stepped, begun, next_number, goes_on, taken, fed, last_taken};
 
+use crate::lent::LentWords;
 use crate::turn;
-use crate::turn::{Said, Stage, Turn};
-use console_text::gather::{Fed, Gather, LINE_MOST};
+use crate::turn::{Said, Stage};
+use console_text::gather::Gather;
+use std::mem;
 
-#[derive(Clone, Copy)]
+#[derive(Drop)]
 pub struct Console {
     pub stage: Stage,
     pub gather: Gather,
@@ -16,43 +18,21 @@ pub struct Console {
     pub number: u64,
 }
 
-// What is said of the input line `number`, and the console after it.
+// What is said of the input line `number`.
 #[derive(Clone, Copy)]
 pub struct Step {
-    pub console: Console,
     pub said: Said,
     pub number: u64,
 }
 
 // Lines and reads are counted up to the largest u64: no input has as many.
-pub const COUNT_MOST: u64 = 18446744073709551615;
+pub const COUNT_MOST: u64 = u64::MAX;
 
 // The number after this one.
 pub fn next_number(number: u64) -> u64
     ensures { result ≡ next_number number }
 {
-    if number < COUNT_MOST {
-        return number + 1;
-    }
-    number
-}
-
-// After the line `number`: a new line is awaited.
-fn passed(turn: Turn, number: u64) -> Step
-    ensures { result ≡ passed turn number }
-{
-    let next = turn.next;
-    let said = turn.said;
-    let gather = Gather::new();
-    Step {
-        console: Console {
-            stage: next,
-            gather,
-            number: next_number(number),
-        },
-        said,
-        number,
-    }
+    number.saturating_add(1)
 }
 
 impl Console {
@@ -60,83 +40,58 @@ impl Console {
     pub fn new() -> Console
         ensures { result ≡ begun }
     {
-        let gather = Gather::new();
         Console {
             stage: Stage::SettingsNames,
-            gather,
+            gather: Gather::new(),
             number: 1,
         }
     }
 
-    // No line is complete: it goes on with what is gathered.
-    fn goes_on(self, gather: Gather) -> Step
-        ensures { result ≡ goes_on self gather }
+    // No line is complete: nothing is said.
+    fn goes_on(&self) -> Step
+        ensures { result ≡ goes_on self.now }
     {
-        let stage = self.stage;
-        let number = self.number;
         Step {
-            console: Console {
-                stage,
-                gather,
-                number,
-            },
             said: Said::Nothing,
+            number: self.number,
+        }
+    }
+
+    // This line is complete: the next is awaited.
+    fn take(&mut self, line: &Gather, lent: &mut LentWords<'_>) -> Step
+        ensures same { SameLent lent.old lent.new }
+        ensures takes { stepped result self.new (lent_of lent.new) ≡ taken self.old line.now (lent_of lent.old) }
+    {
+        let number = self.number;
+        let turn = turn::take_line(self.stage, line, lent);
+        self.stage = turn.next;
+        self.number = next_number(number);
+        Step {
+            said: turn.said,
             number,
         }
     }
 
-    // The line that was gathered is complete.
-    fn take(
-        self,
-        line: &[u8; LINE_MOST],
-        store: &mut [u32],
-        rows: &mut [u32],
-        list: &mut [u32],
-    ) -> Step
-        ensures { stepped result line.now store.new rows.new list.new
-            ≡ taken self line.now (lent store.old rows.old list.old) }
-    {
-        let stage = self.stage;
-        let gather = self.gather;
-        let number = self.number;
-        let turn = turn::take_line(stage, gather, line, store, rows, list);
-        passed(turn, number)
-    }
-
     // The next byte.
-    pub fn feed(
-        self,
-        byte: u8,
-        line: &mut [u8; LINE_MOST],
-        store: &mut [u32],
-        rows: &mut [u32],
-        list: &mut [u32],
-    ) -> Step
-        ensures { stepped result line.new store.new rows.new list.new
-            ≡ fed self line.old (lent store.old rows.old list.old) byte }
+    pub fn feed(&mut self, byte: u8, lent: &mut LentWords<'_>) -> Step
+        ensures same { SameLent lent.old lent.new }
+        ensures feeds { stepped result self.new (lent_of lent.new) ≡ fed self.old (lent_of lent.old) byte }
     {
-        let gather = self.gather;
-        match gather.feed(line, byte) {
-            Fed::More(longer) => self.goes_on(longer),
-            Fed::LineEnd => self.take(line, store, rows, list),
+        match self.gather.feed(byte) {
+            Some(line) => self.take(&line, lent),
+            None => self.goes_on(),
         }
     }
 
     // At the end of the input: the last line, if there is one that lacks its newline.
-    pub fn last(
-        self,
-        line: &[u8; LINE_MOST],
-        store: &mut [u32],
-        rows: &mut [u32],
-        list: &mut [u32],
-    ) -> Step
-        ensures { stepped result line.now store.new rows.new list.new
-            ≡ last_taken self line.now (lent store.old rows.old list.old) }
+    pub fn last(&mut self, lent: &mut LentWords<'_>) -> Step
+        ensures same { SameLent lent.old lent.new }
+        ensures takes { stepped result self.new (lent_of lent.new) ≡ last_taken self.old (lent_of lent.old) }
     {
-        let gather = self.gather;
-        if gather.left_over() {
-            return self.take(line, store, rows, list);
+        if !self.gather.left_over() {
+            return self.goes_on();
         }
-        self.goes_on(gather)
+        let line = mem::replace(&mut self.gather, Gather::new());
+        self.take(&line, lent)
     }
 }

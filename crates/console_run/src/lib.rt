@@ -3,5 +3,6 @@
 #![tactic(auto)]
 
 pub mod feed;
+pub mod lent;
 pub mod print;
 pub mod turn;

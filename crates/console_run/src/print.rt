@@ -1,11 +1,11 @@
-// The output lines for what is said, one at a time, so that a buffer of one line serves.
+// The output lines for what is said, one at a time.
 ghost use Rattle.std.specs.Prelude.{◌≡◌, get_or, []};
-ghost use Rattle.console_text.specs.Output.{Printed};
 ghost use Rattle.console_run.specs.Console.{missing, said_lines};
 ghost use Rattle.console_run.specs.PrintLaws.{line_count, slice_line};
 
 use crate::turn::{Said, Stage};
 use console_text::print;
+use console_text::print::OutputLine;
 pub use layout::ROW_LEN;
 
 // At the end of the input: one of the first three lines is missing, or nothing is.
@@ -13,11 +13,8 @@ pub fn at_end(stage: Stage) -> Said
     ensures { result ≡ missing stage }
 {
     match stage {
-        Stage::SettingsNames => Said::Bad,
-        Stage::Settings => Said::Bad,
-        Stage::ChangeNames => Said::Bad,
-        Stage::Changes => Said::Nothing,
-        Stage::Over => Said::Nothing,
+        Stage::SettingsNames | Stage::Settings | Stage::ChangeNames => Said::Bad,
+        Stage::Changes | Stage::Over => Said::Nothing,
     }
 }
 
@@ -27,9 +24,8 @@ pub fn line_count(said: Said) -> u64
 {
     match said {
         Said::Nothing => 0,
-        Said::Bad => 1,
-        Said::No(_, _) => 1,
-        Said::Slice(_, rows, _) => rows as u64 + 1,
+        Said::Bad | Said::No(_, _) => 1,
+        Said::Slice(_, rows, _) => u64::from(rows) + 1,
     }
 }
 
@@ -37,38 +33,33 @@ pub fn line_count(said: Said) -> u64
 fn word(rows: &[u32], i: usize) -> u32
     ensures { result ≡ get_or rows.now i 0 }
 {
-    if i < rows.len() {
-        return rows[i];
-    }
-    0
+    rows.get(i).copied().unwrap_or(0)
 }
 
 // A look-back's i-th row, or its sum after them.
-fn put_slice(out: &mut [u8], time: u32, count: u32, blocks: u32, rows: &[u32], i: u64) -> usize
-    ensures { Printed (slice_line time count blocks rows.now i)
-        out.old result out.new }
+fn slice_line(time: u32, count: u32, blocks: u32, rows: &[u32], i: u64) -> OutputLine
+    ensures { result.items ≡ slice_line time count blocks rows.now i }
 {
-    if count as u64 <= i {
-        return print::put_sum(out, time, count, blocks);
+    if u64::from(count) <= i {
+        return print::sum_line(time, count, blocks);
     }
     let at = ROW_LEN * i as usize;
     let tag = word(rows, at);
     let reading = word(rows, at + 1);
-    print::put_row(out, time, tag, reading)
+    print::row_line(time, tag, reading)
 }
 
 // The i-th line, counted from 0, of what is said of the input line `number`; nothing past the last.
-pub fn put_line(out: &mut [u8], said: Said, number: u64, rows: &[u32], i: u64) -> usize
-    ensures { Printed (get_or (said_lines said number rows.now) i [])
-        out.old result out.new }
+pub fn line_at(said: Said, number: u64, rows: &[u32], i: u64) -> OutputLine
+    ensures { result.items ≡ get_or (said_lines said number rows.now) i [] }
 {
     if line_count(said) <= i {
-        return 0;
+        return OutputLine::new();
     }
     match said {
-        Said::Nothing => 0,
-        Said::Bad => print::put_bad(out, number),
-        Said::No(time, refusal) => print::put_no(out, time, refusal),
-        Said::Slice(time, count, blocks) => put_slice(out, time, count, blocks, rows, i),
+        Said::Nothing => OutputLine::new(),
+        Said::Bad => print::bad_line(number),
+        Said::No(time, refusal) => print::no_line(time, refusal),
+        Said::Slice(time, count, blocks) => slice_line(time, count, blocks, rows, i),
     }
 }

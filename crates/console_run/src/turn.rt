@@ -1,18 +1,18 @@
 // What a line does: which line is awaited after it, what is said of it, and the register's words then.
-ghost use Rattle.std.specs.Prelude.{◌≡◌, min};
-ghost use Rattle.console_text.specs.Input.{settings_names, settings_line, change_names, change_line};
-ghost use Rattle.console_text.specs.Lines.{line_text};
-ghost use Rattle.console_run.specs.Console.{lent, does, says, bad_at, names_do, answered, settings_do, asked_of, change_do, text_does, line_does};
-ghost use Rattle.console_run.specs.TurnLaws.{start_of, asked_do};
+ghost use Rattle.std.specs.Prelude.{◌≡◌, if◌then◌else◌};
+ghost use Rattle.console_text.specs.Input.{settings_line, change_line};
+ghost use Rattle.console_run.specs.Console.{does, says, bad_at, answered, called, settings_do, asked_of, change_do, text_does, line_does};
+ghost use Rattle.console_run.specs.Words.{lent_of, SameLent};
 
+use crate::lent::LentWords;
 use applying::{Answer, Call};
-use console_text::gather::{Gather, LINE_MOST};
+use console_text::gather::Gather;
 use console_text::parse;
-use console_text::parse::{Line, Numbers};
+use console_text::parse::Line;
 use layout::settings::Settings;
 
 // The line that is awaited: one of the first three, a change, or none any more.
-#[derive(Clone, Copy)]
+#[derive(Clone, Copy, PartialEq, Eq)]
 pub enum Stage {
     SettingsNames,
     Settings,
@@ -38,204 +38,112 @@ pub struct Turn {
     pub said: Said,
 }
 
-// What a change line asks for.
-#[derive(Clone, Copy)]
-pub enum LineAsks {
-    // at a time, a call
-    Call(u32, Call),
-    Bad,
+// A bad line: among the first three it ends the run.
+fn bad_at(stage: Stage) -> Turn
+    ensures { result ≡ bad_at stage }
+{
+    let (next, said) = match stage {
+        Stage::SettingsNames | Stage::Settings | Stage::ChangeNames => (Stage::Over, Said::Bad),
+        Stage::Changes => (Stage::Changes, Said::Bad),
+        Stage::Over => (Stage::Over, Said::Nothing),
+    };
+    Turn { next, said }
 }
 
-fn bad(next: Stage) -> Turn
-    ensures { result ≡ says next Said.Bad }
+// A names line: it stands exactly so, or it is bad.
+fn names(stands: bool, stage: Stage, next: Stage) -> Turn
+    ensures { result ≡ (if stands then says next Said.Nothing else bad_at stage) }
 {
-    Turn {
-        next,
-        said: Said::Bad,
+    if !stands {
+        return bad_at(stage);
     }
-}
-
-fn fine(next: Stage) -> Turn
-    ensures { result ≡ says next Said.Nothing }
-{
     Turn {
         next,
         said: Said::Nothing,
     }
 }
 
-// A bad line: among the first three it ends the run.
-fn bad_at(stage: Stage) -> Turn
-    ensures { result ≡ bad_at stage }
-{
-    match stage {
-        Stage::SettingsNames => bad(Stage::Over),
-        Stage::Settings => bad(Stage::Over),
-        Stage::ChangeNames => bad(Stage::Over),
-        Stage::Changes => bad(Stage::Changes),
-        Stage::Over => fine(Stage::Over),
-    }
-}
-
-fn settings_names(text: &[u8]) -> Turn
-    ensures { result ≡ names_do Stage.SettingsNames Stage.Settings settings_names text.now }
-{
-    if parse::is_settings_names(text) {
-        return fine(Stage::Settings);
-    }
-    bad_at(Stage::SettingsNames)
-}
-
-fn change_names(text: &[u8]) -> Turn
-    ensures { result ≡ names_do Stage.ChangeNames Stage.Changes change_names text.now }
-{
-    if parse::is_change_names(text) {
-        return fine(Stage::Changes);
-    }
-    bad_at(Stage::ChangeNames)
-}
-
 // A call's answer, for a line of this time: `done` is awaited after an accepted one, `refused` after a refused one.
 fn answered(answer: Answer, time: u32, done: Stage, refused: Stage) -> Turn
     ensures { result ≡ answered done refused time answer }
 {
-    match answer {
-        Answer::Done(_) => fine(done),
-        Answer::Shown(slice) => Turn {
-            next: done,
-            said: Said::Slice(time, slice.counts.rows, slice.counts.blocks),
-        },
-        Answer::Refused(n) => Turn {
-            next: refused,
-            said: Said::No(time, n),
-        },
-    }
+    let (next, said) = match answer {
+        Answer::Done(_) => (done, Said::Nothing),
+        Answer::Shown(slice) => (
+            done,
+            Said::Slice(time, slice.counts.rows, slice.counts.blocks),
+        ),
+        Answer::Refused(n) => (refused, Said::No(time, n)),
+    };
+    Turn { next, said }
 }
 
-fn asked_of(line: Line) -> LineAsks
+// A call at a time, and what is awaited after it, accepted or refused.
+fn called(call: Call, time: u32, done: Stage, refused: Stage, lent: &mut LentWords<'_>) -> Turn
+    ensures same { SameLent lent.old lent.new }
+    ensures does { does result (lent_of lent.new) ≡ called done refused time call (lent_of lent.old) }
+{
+    let answer = applying::apply(lent.store, call, lent.rows, lent.list);
+    answered(answer, time, done, refused)
+}
+
+// The settings ask for start, at time 0.
+fn settings(text: &[u8], lent: &mut LentWords<'_>) -> Turn
+    ensures same { SameLent lent.old lent.new }
+    ensures does { does result (lent_of lent.new) ≡ settings_do (settings_line text.now) (lent_of lent.old) }
+{
+    let Some((b, q, blocks, tags)) = parse::parse_settings(text) else {
+        return bad_at(Stage::Settings);
+    };
+    let start = Call::Start(Settings::asked(b, q, blocks, tags));
+    called(start, 0, Stage::ChangeNames, Stage::Over, lent)
+}
+
+// The time of a change, and the call that it asks for.
+fn asked_of(line: Line) -> (u32, Call)
     ensures { result ≡ asked_of line }
 {
     match line {
-        Line::Set(time, tag, reading) => LineAsks::Call(time, Call::Set(time, tag, reading)),
-        Line::Clear(time, tag) => LineAsks::Call(time, Call::Clear(time, tag)),
-        Line::Update(time, tag, reading) => LineAsks::Call(time, Call::Update(time, tag, reading)),
-        Line::Advance(time) => LineAsks::Call(time, Call::Advance(time)),
-        Line::LookBack(time) => LineAsks::Call(time, Call::LookBack(time)),
-        Line::Bad => LineAsks::Bad,
+        Line::Set(time, tag, reading) => (time, Call::Set(time, tag, reading)),
+        Line::Clear(time, tag) => (time, Call::Clear(time, tag)),
+        Line::Update(time, tag, reading) => (time, Call::Update(time, tag, reading)),
+        Line::Advance(time) => (time, Call::Advance(time)),
+        Line::LookBack(time) => (time, Call::LookBack(time)),
     }
 }
 
-// What the settings ask for: to start with them, at time 0.
-fn start_of(line: Numbers) -> LineAsks
-    ensures { result ≡ start_of line }
+fn change(text: &[u8], lent: &mut LentWords<'_>) -> Turn
+    ensures same { SameLent lent.old lent.new }
+    ensures does { does result (lent_of lent.new) ≡ change_do (change_line text.now) (lent_of lent.old) }
 {
-    match line {
-        Numbers::Four(b, q, blocks, tags) => {
-            LineAsks::Call(0, Call::Start(Settings::asked(b, q, blocks, tags)))
-        }
-        Numbers::Bad => LineAsks::Bad,
-    }
-}
-
-// What a line of this stage asks for: `done` is awaited after an accepted call, `refused` after a refused one.
-fn called(
-    asked: LineAsks,
-    stage: Stage,
-    done: Stage,
-    refused: Stage,
-    store: &mut [u32],
-    rows: &mut [u32],
-    list: &mut [u32],
-) -> Turn
-    ensures { does result store.new rows.new list.new
-        ≡ asked_do stage done refused asked (lent store.old rows.old list.old) }
-{
-    match asked {
-        LineAsks::Call(time, call) => {
-            let answer = applying::apply(store, call, rows, list);
-            answered(answer, time, done, refused)
-        }
-        LineAsks::Bad => bad_at(stage),
-    }
-}
-
-fn settings(text: &[u8], store: &mut [u32], rows: &mut [u32], list: &mut [u32]) -> Turn
-    ensures { does result store.new rows.new list.new
-        ≡ settings_do (settings_line text.now)
-        (lent store.old rows.old list.old) }
-{
-    let asked = start_of(parse::parse_settings(text));
-    called(
-        asked,
-        Stage::Settings,
-        Stage::ChangeNames,
-        Stage::Over,
-        store,
-        rows,
-        list,
-    )
-}
-
-fn change(text: &[u8], store: &mut [u32], rows: &mut [u32], list: &mut [u32]) -> Turn
-    ensures { does result store.new rows.new list.new
-        ≡ change_do (asked_of (change_line text.now))
-        (lent store.old rows.old list.old) }
-{
-    let asked = asked_of(parse::parse_change(text));
-    called(
-        asked,
-        Stage::Changes,
-        Stage::Changes,
-        Stage::Changes,
-        store,
-        rows,
-        list,
-    )
+    let Some(line) = parse::parse_change(text) else {
+        return bad_at(Stage::Changes);
+    };
+    let (time, call) = asked_of(line);
+    called(call, time, Stage::Changes, Stage::Changes, lent)
 }
 
 // A line of at most LINE_MOST bytes.
-fn take_text(
-    stage: Stage,
-    text: &[u8],
-    store: &mut [u32],
-    rows: &mut [u32],
-    list: &mut [u32],
-) -> Turn
-    ensures { does result store.new rows.new list.new
-        ≡ text_does stage text.now (lent store.old rows.old list.old) }
+fn take_text(stage: Stage, text: &[u8], lent: &mut LentWords<'_>) -> Turn
+    ensures same { SameLent lent.old lent.new }
+    ensures does { does result (lent_of lent.new) ≡ text_does stage text.now (lent_of lent.old) }
 {
     match stage {
-        Stage::SettingsNames => settings_names(text),
-        Stage::Settings => settings(text, store, rows, list),
-        Stage::ChangeNames => change_names(text),
-        Stage::Changes => change(text, store, rows, list),
+        Stage::SettingsNames => names(parse::is_settings_names(text), stage, Stage::Settings),
+        Stage::Settings => settings(text, lent),
+        Stage::ChangeNames => names(parse::is_change_names(text), stage, Stage::Changes),
+        Stage::Changes => change(text, lent),
         Stage::Over => bad_at(Stage::Over),
     }
 }
 
-fn least(a: usize, b: usize) -> usize
-    ensures { result ≡ min a b }
-{
-    if a < b { a } else { b }
-}
-
 // The line that is complete, as it was gathered.
-pub fn take_line(
-    stage: Stage,
-    gather: Gather,
-    line: &[u8; LINE_MOST],
-    store: &mut [u32],
-    rows: &mut [u32],
-    list: &mut [u32],
-) -> Turn
-    ensures { does result store.new rows.new list.new
-        ≡ line_does stage (line_text gather line.now)
-        (lent store.old rows.old list.old) }
+pub fn take_line(stage: Stage, line: &Gather, lent: &mut LentWords<'_>) -> Turn
+    ensures same { SameLent lent.old lent.new }
+    ensures does { does result (lent_of lent.new) ≡ line_does stage line.now (lent_of lent.old) }
 {
-    if gather.long {
-        return bad_at(stage);
+    match line.text() {
+        Some(text) => take_text(stage, text, lent),
+        None => bad_at(stage),
     }
-    let bytes: &[u8] = line;
-    let end = least(gather.len, bytes.len());
-    take_text(stage, &bytes[..end], store, rows, list)
 }

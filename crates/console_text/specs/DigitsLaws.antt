@@ -1,11 +1,10 @@
--- How long a decimal is, that it is what the library `io` spells, and what putting it into a buffer ensures.
+-- How long a decimal is, and that it is what the library `io` spells.
 use Rattle.std.specs.Prelude.{◌≡◌, List, [], ◌∷◌, ◌++◌, ℕ, zero, suc, ◌+◌, ◌-◌, ◌/◌, ◌%◌, ◌^◌, ◌≤◌, ◌<◌, length}
 use Rattle.std.proofs.Common.{sym, ◌∙◌, append_assoc, append-nil, arith, pow-suc, lit<, lt-ltb, le-ltb}
 use Rattle.std.proofs.Math.Nat.{one-le-pow, pow-le-pow_right}
 use Rattle.base.specs.Branch.{lt?}
 use Rattle.io.specs.Digits.{hex_digit_ascii, last_digits, IsDigitCount}
 use Rattle.console_text.specs.Decimal.{digit_byte, digits_before, decimal}
-use Rattle.console_text.specs.PieceLaws.{Piece, piece_then}
 
 -- A number up to 9 is a digit, and a larger one ends with one.
 pub digits_few : (k n : ℕ) (after : List ℕ) → n < 10 → digits_before (suc k) n after ≡ digit_byte n ∷ after
@@ -68,20 +67,6 @@ spelled (suc k) n f h = sym (append-nil (last_digits 10 (suc k) n)) ∙ digits_s
     one : suc k - 1 ≡ k
     one = omega arith
 
--- ---- put into a buffer
-
--- The decimal of n and a byte after it are a piece, of at most 21 bytes, and at most 11 for a word.
-pub record PutNumber (n last at : ℕ) (before : List ℕ) (end : ℕ) (after : List ℕ) : Type 0 where
-  pub piece : Piece (decimal n ++ (last ∷ [])) at before end after
-  pub most : end ≤ at + 21
-  pub word : n < 2 ^ 32 → end ≤ at + 11
-
-pub number_put : {n k last at mid end : ℕ} {text before between after : List ℕ} → n < 2 ^ 64 → IsDigitCount 10 1 n k → text ≡ last_digits 10 k n
-    → Piece text at before mid between → Piece (last ∷ []) mid between end after → PutNumber n last at before end after
-number_put {n} {k} {at = at} {mid = mid} {before = before} {between = between} h f e p q =
-    let d : Piece (decimal n) at before mid between = rw (e ∙ spelled k n f (digits_most h f)) at p in
-    record {
-      piece = piece_then d q;
-      most = omega (arith, d.ends, q.ends, decimal_most n h);
-      word = λ w. omega (arith, d.ends, q.ends, decimal_word n w);
-    }
+-- What the library spells is the decimal.
+pub digits_are : {n k : ℕ} {digits : List ℕ} → n < 2 ^ 64 → IsDigitCount 10 1 n k → digits ≡ last_digits 10 k n → digits ≡ decimal n
+digits_are {n} {k} h f e = e ∙ spelled k n f (digits_most h f)

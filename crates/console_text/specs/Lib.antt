@@ -1,4 +1,3 @@
-pub mod Bytes
 pub mod Decimal
 pub mod Reading
 pub mod Output
@@ -6,7 +5,6 @@ pub mod Fields
 pub mod Input
 pub mod Lines
 pub mod DecimalLaws
-pub mod PieceLaws
 pub mod DigitsLaws
 pub mod OutputLaws
 pub mod FieldsLaws

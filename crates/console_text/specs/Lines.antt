@@ -1,9 +1,7 @@
--- THE LINES OF AN INPUT (document 01, "The console program"), and the same lines gathered byte by byte through a buffer of a line's length.
-use Rattle.std.specs.Prelude.{◌≡◌, Bool, true, false, cond, not, List, [], ◌∷◌, ℕ, ◌+◌, eqb, leb, length, take, set}
+-- THE LINES OF AN INPUT (document 01, "The console program"), and the same lines gathered byte by byte, each in the room of a line's length.
+use Rattle.std.specs.Prelude.{Bool, true, cond, not, List, [], ◌∷◌, ◌++◌, ℕ, eqb, leb, length, Option, Some, None}
+use Rattle.arrayvec.specs.ArrayVec.{ArrayVec}
 use Prim.Native.Char.{code}
-use Rattle.console_text.specs.declared.gather.Gather.{Gather}
-use Rattle.console_text.specs.declared.gather.Fed.{Fed}
-use Rattle.console_text.specs.declared.gather.Fed.TheVariants.{More, LineEnd}
 use Rattle.console_text.specs.Fields.{split}
 
 -- ---- the lines
@@ -31,38 +29,37 @@ lines_of input = ended (split (code "\n") input)
 
 -- ---- byte by byte
 
-unfoldable pub new_line : Gather
-new_line = record { len = 0; long = false }
+-- What the code holds of a line: its bytes, as long as there is room for them.
+abbrev pub held : Option (ArrayVec ℕ) → Text
+held (Some bytes) = whole bytes.items
+held None = too_long
+
+abbrev pub new_line : Text
+new_line = whole []
 
 -- What is left at the end of the input is a line unless it is empty.
-unfoldable pub left_over : Gather → Bool
-left_over g = not (eqb g.len 0)
+abbrev pub left_over : Text → Bool
+left_over (whole bytes) = not (eqb (length bytes) 0)
+left_over too_long = true
 
 -- One byte more. There is no room beyond line_most.
-unfoldable pub grown : Gather → Gather
-grown g = cond (leb line_most g.len) (record { len = g.len; long = true }) (record { len = g.len + 1; long = g.long })
+abbrev pub grown : Text → ℕ → Text
+grown (whole bytes) x = cond (leb line_most (length bytes)) too_long (whole (bytes ++ (x ∷ [])))
+grown too_long x = too_long
 
-unfoldable pub fed_answer : Gather → ℕ → Fed
-fed_answer g x = cond (eqb x (code "\n")) LineEnd (More (grown g))
+-- A byte's answer, the line that it completes, and the line so far after it.
+abbrev pub fed_answer : Text → ℕ → Option Text
+fed_answer g x = cond (eqb x (code "\n")) (Some g) None
 
-unfoldable pub fed_line : Gather → List ℕ → ℕ → List ℕ
-fed_line g line x = cond (eqb x (code "\n")) line (cond (leb line_most g.len) line (set line g.len x))
-
--- A byte's answer and the buffer after it.
-pub record Feeds (g : Gather) (before : List ℕ) (x : ℕ) (r : Fed) (after : List ℕ) : Type 0 where
-  pub answer : r ≡ fed_answer g x
-  pub buffer : after ≡ fed_line g before x
-
--- The line that is complete.
-unfoldable pub line_text : Gather → List ℕ → Text
-line_text g line = cond g.long too_long (whole (take g.len line))
+abbrev pub fed_next : Text → ℕ → Text
+fed_next g x = cond (eqb x (code "\n")) new_line (grown g x)
 
 -- A line that is complete comes before what the new one gives; else the line goes on.
-unfoldable pub on_fed : Fed → Text → (Gather → List Text) → List Text
-on_fed (More g) text rest = rest g
-on_fed LineEnd text rest = text ∷ rest new_line
+unfoldable pub on_fed : Option Text → List Text → List Text
+on_fed (Some text) rest = text ∷ rest
+on_fed None rest = rest
 
 -- What a caller gets that feeds the bytes in order and takes each complete line.
-unfoldable pub gathered : Gather → List ℕ → List ℕ → List Text
-gathered g line [] = cond (left_over g) (line_text g line ∷ []) []
-gathered g line (x ∷ rest) = on_fed (fed_answer g x) (line_text g line) (λ h. gathered h (fed_line g line x) rest)
+unfoldable pub gathered : Text → List ℕ → List Text
+gathered g [] = cond (left_over g) (g ∷ []) []
+gathered g (x ∷ rest) = on_fed (fed_answer g x) (gathered (fed_next g x) rest)

@@ -1,8 +1,7 @@
 -- READING IS THE INVERSE OF PRINTING: a field stands for a number up to `most` exactly if it is that number's decimal.
-use Rattle.std.specs.Prelude.{◌≡◌, refl, true, false, ◌&&◌, List, [], ◌∷◌, ◌++◌, ℕ, zero, suc, ◌+◌, ◌*◌, ◌-◌, ◌/◌, ◌%◌, ◌^◌, ◌≤◌, ◌<◌, eqb, leb, length, get_or}
+use Rattle.std.specs.Prelude.{◌≡◌, refl, true, false, ◌&&◌, List, [], ◌∷◌, ◌++◌, ℕ, zero, suc, ◌+◌, ◌*◌, ◌-◌, ◌/◌, ◌%◌, ◌^◌, ◌≤◌, ◌<◌, eqb, leb, length, get_or, Some, None}
 use Rattle.std.proofs.Common.{sym, ◌∙◌, append-nil, arith, pow-suc, lt-ltb, le-ltb, ne_eqb, le-leb}
 use Rattle.base.specs.Branch.{by_test, is?, lt?}
-use Rattle.console_text.specs.declared.decimal.Number.TheVariants.{Plain, None}
 use Rattle.console_text.specs.Decimal.{digit_byte, digits_before, decimal, read_on, spare_zero, number_of}
 use Rattle.console_text.specs.DigitsLaws.{digits_few, digits_many}
 
@@ -46,11 +45,9 @@ first_digit (suc k) n after p h e = lt? n 10 (λ a. first_few (suc k) n after p 
 
 -- No spare zero without a zero in front.
 spare_not : (field : List ℕ) → (get_or field 0 0 ≡ 48 → ⊥) → spare_zero field ≡ false
-unfolding spare_zero
 spare_not field h = by_test (leb 2 (length field)) (λ t. (t && eqb (get_or field 0 0) 48) ≡ false) (λ e. ne_eqb (get_or field 0 0) 48 h) (λ e. refl)
 
 spare_one : (x : ℕ) → spare_zero (x ∷ []) ≡ false
-unfolding spare_zero
 spare_one x = refl
 
 decimal_spare : (n : ℕ) → n < 10 ^ 20 → spare_zero (decimal n) ≡ false
@@ -63,13 +60,12 @@ unfolding decimal
 decimal_some n = lt? n 10 (λ a. rw (digits_few 19 n [] a) (omega arith))
     (λ a. rw (digits_many 19 n [] a) (digits_some 19 (n / 10) (digit_byte (n % 10) ∷ [])))
 
-read_whole : (most n : ℕ) → n < 10 ^ 20 → n ≤ most → read_on most 0 (decimal n) ≡ Plain n
+read_whole : (most n : ℕ) → n < 10 ^ 20 → n ≤ most → read_on most 0 (decimal n) ≡ Some n
 unfolding decimal read_on
 read_whole most n h o = read_digits most 19 n [] h o
 
 -- THE DECIMAL OF A NUMBER IS READ AS THAT NUMBER.
-pub read_decimal : (most n : ℕ) → most < 2 ^ 64 → n ≤ most → number_of most (decimal n) ≡ Plain n
-unfolding number_of
+pub read_decimal : (most n : ℕ) → most < 2 ^ 64 → n ≤ most → number_of most (decimal n) ≡ Some n
 read_decimal most n h o =
     let s : 1 ≤ length (decimal n) = decimal_some n in
     rw (ne_eqb (length (decimal n)) 0 (omega arith), decimal_spare n (omega arith)) (read_whole most n (omega arith) o)
@@ -81,12 +77,12 @@ record Digit (most v x : ℕ) (rest : List ℕ) (n : ℕ) : Type 0 where
   low : 48 ≤ x
   high : x ≤ 57
   small : 10 * v + (x - 48) ≤ most
-  next : read_on most (10 * v + (x - 48)) rest ≡ Plain n
+  next : read_on most (10 * v + (x - 48)) rest ≡ Some n
 
-never : {A : Type 0} {n : ℕ} → None ≡ Plain n → A
+never : {A : Type 0} {n : ℕ} → None ≡ Some n → A
 never e = let z : ◌≡◌ {A = ℕ} 0 1 = cc in absurd (omega arith)
 
-digit_of : (most v x : ℕ) (rest : List ℕ) {n : ℕ} → read_on most v (x ∷ rest) ≡ Plain n → Digit most v x rest n
+digit_of : (most v x : ℕ) (rest : List ℕ) {n : ℕ} → read_on most v (x ∷ rest) ≡ Some n → Digit most v x rest n
 unfolding read_on
 digit_of most v x rest {n} e = lt? x 48 (λ a. never (rw (lt-ltb x 48 a) at e))
     (λ a. lt? 57 x (λ b. never (rw (le-ltb x 48 a, lt-ltb 57 x b) at e))
@@ -94,7 +90,7 @@ digit_of most v x rest {n} e = lt? x 48 (λ a. never (rw (lt-ltb x 48 a) at e))
     (λ o. record { low = a; high = b; small = o; next = rw (le-ltb x 48 a, le-ltb 57 x b, le-ltb most (10 * v + (x - 48)) o) at e })))
 
 -- What is read on from v above 0 has the digits of v, then those that were read.
-digits_back : (most v k : ℕ) (field after : List ℕ) {n : ℕ} → 0 < v → read_on most v field ≡ Plain n
+digits_back : (most v k : ℕ) (field after : List ℕ) {n : ℕ} → 0 < v → read_on most v field ≡ Some n
     → digits_before (k + length field) n after ≡ digits_before k v (field ++ after)
 unfolding read_on
 digits_back most v k [] after {n} p e =
@@ -111,7 +107,7 @@ digits_back most v k (x ∷ rest) after {n} p e =
     ∙ digits_many k w (rest ++ after) (omega arith) ∙ rw (q, r))
 
 -- It has as many digits more, and is at most `most`.
-read_bounds : (most v j : ℕ) (field : List ℕ) {n : ℕ} → v < 10 ^ j → v ≤ most → read_on most v field ≡ Plain n
+read_bounds : (most v j : ℕ) (field : List ℕ) {n : ℕ} → v < 10 ^ j → v ≤ most → read_on most v field ≡ Some n
     → (n < 10 ^ (j + length field)) × (n ≤ most)
 unfolding read_on
 read_bounds most v j [] {n} h o e =
@@ -137,13 +133,13 @@ digits_room (suc k) (suc m) n after h g = lt? n 10
     ∙ sym (digits_many (suc m) n after a))
 
 -- A field whose first digit is no zero is a decimal.
-long_decimal : (most x n : ℕ) (rest : List ℕ) → most < 2 ^ 64 → (x ≡ 48 → ⊥) → read_on most 0 (x ∷ rest) ≡ Plain n
+long_decimal : (most x n : ℕ) (rest : List ℕ) → most < 2 ^ 64 → (x ≡ 48 → ⊥) → read_on most 0 (x ∷ rest) ≡ Some n
     → x ∷ rest ≡ decimal n
 unfolding decimal
 long_decimal most x n rest h z e =
     let d = digit_of most 0 x rest e in
     let v : 10 * 0 + (x - 48) ≡ x - 48 = omega arith in
-    let e' : read_on most (x - 48) rest ≡ Plain n = rw v at d.next in
+    let e' : read_on most (x - 48) rest ≡ Some n = rw v at d.next in
     let a : x - 48 < 10 = omega (arith, d.high) in
     let b : digit_byte (x - 48) ≡ x = omega (arith, d.low) in
     let p : 0 < x - 48 = positive x d.low z in
@@ -156,9 +152,9 @@ long_decimal most x n rest h z e =
     positive x l z = is? x 48 (λ e. absurd (z e)) (λ n. omega arith)
 
 -- A field with a zero in front is "0".
-zero_decimal : (most n : ℕ) (rest : List ℕ) → spare_zero (48 ∷ rest) ≡ false → read_on most 0 (48 ∷ rest) ≡ Plain n
+zero_decimal : (most n : ℕ) (rest : List ℕ) → spare_zero (48 ∷ rest) ≡ false → read_on most 0 (48 ∷ rest) ≡ Some n
     → 48 ∷ rest ≡ decimal n
-unfolding decimal digits_before read_on spare_zero
+unfolding decimal digits_before read_on
 zero_decimal most n [] s e =
     let d = digit_of most 0 48 [] e in
     let z : 0 ≡ n = cc d.next in
@@ -168,8 +164,7 @@ zero_decimal most n (y ∷ rest) s e =
     let w : ◌≡◌ {A = ℕ} 0 1 = cc in absurd (omega arith)
 
 -- NOTHING ELSE IS READ AS IT.
-pub only_decimal : (most n : ℕ) (field : List ℕ) → most < 2 ^ 64 → number_of most field ≡ Plain n → field ≡ decimal n
-unfolding number_of
+pub only_decimal : (most n : ℕ) (field : List ℕ) → most < 2 ^ 64 → number_of most field ≡ Some n → field ≡ decimal n
 only_decimal most n [] h e = never e
 only_decimal most n (x ∷ rest) h e =
     let e' = rw (ne_eqb (suc (length rest)) 0 (λ z. omega arith)) at e in

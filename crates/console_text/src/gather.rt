@@ -1,24 +1,27 @@
-// The input's lines from its bytes, one byte at a time, through a buffer of a line's length. A caller reads chunks of any length, feeds each
-// byte, and at LineEnd takes the line: `line[..len]`, or too long. What is left at the end of the input is a line if it is not empty.
-ghost use Rattle.std.specs.Prelude.{◌≡◌};
-ghost use Rattle.console_text.specs.Lines.{new_line, left_over, Feeds};
+// The input's lines from its bytes, one byte at a time. A caller reads chunks of any length and feeds each byte: a newline gives the line that it
+// completes. What is left at the end of the input is a line if it is not empty.
+ghost use Rattle.std.specs.Prelude.{◌≡◌, MatchOption};
+ghost use Rattle.console_text.specs.Lines.{Text, whole, too_long, new_line, left_over, grown, fed_answer, fed_next};
+
+use arrayvec::ArrayVec;
+use std::marker::Model;
+use std::mem;
 
 pub const LINE_MOST: usize = 80;
 
 // A line so far.
-#[derive(Clone, Copy)]
+#[derive(Drop)]
 pub struct Gather {
-    // its bytes in the buffer
-    pub len: usize,
-    // it has more than LINE_MOST bytes; those beyond are skipped
-    pub long: bool,
+    // its bytes; none where it has more than LINE_MOST
+    bytes: Option<ArrayVec<u8, LINE_MOST>>,
 }
 
-// What a byte does: the line goes on, or it is complete as it was before the byte.
-#[derive(Clone, Copy)]
-pub enum Fed {
-    More(Gather),
-    LineEnd,
+impl Model for Gather {
+    ghost use Rattle.console_text.specs.Lines.{Text, held};
+
+    ghost Value = { Text };
+
+    ghost view = { λ g. held g.bytes };
 }
 
 impl Gather {
@@ -27,31 +30,50 @@ impl Gather {
         ensures { result ≡ new_line }
     {
         Gather {
-            len: 0,
-            long: false,
+            bytes: Some(ArrayVec::new()),
         }
     }
 
-    // The next byte.
-    pub fn feed(self, line: &mut [u8; LINE_MOST], byte: u8) -> Fed
-        ensures { Feeds self line.old byte result line.new }
+    // The next byte. A newline gives the line that is complete, and a new one begins.
+    pub fn feed(&mut self, byte: u8) -> Option<Gather>
+        ensures answer { result ≡ fed_answer self.old byte }
+        ensures next { self.new ≡ fed_next self.old byte }
     {
         if byte == b'\n' {
-            return Fed::LineEnd;
+            return Some(mem::replace(self, Gather::new()));
         }
-        let len = self.len;
-        let long = self.long;
-        if LINE_MOST <= len {
-            return Fed::More(Gather { len, long: true });
+        self.push(byte);
+        None
+    }
+
+    // One byte more of the line.
+    fn push(&mut self, byte: u8)
+        ensures { self.new ≡ grown self.old byte }
+    {
+        if let Some(bytes) = &mut self.bytes {
+            if bytes.try_push(byte).is_err() {
+                self.bytes = None;
+            }
         }
-        line[len] = byte;
-        Fed::More(Gather { len: len + 1, long })
     }
 
     // At the end of the input: there is a last line, which lacks its newline.
-    pub fn left_over(self) -> bool
-        ensures { result ≡ left_over self }
+    pub fn left_over(&self) -> bool
+        ensures { result ≡ left_over self.now }
     {
-        self.len != 0
+        match &self.bytes {
+            Some(bytes) => !bytes.is_empty(),
+            None => true,
+        }
+    }
+
+    // The line's bytes; none where they are too many.
+    pub fn text(&self) -> Option<&[u8]>
+        ensures { MatchOption result (self.now ≡ too_long) (λ text. self.now ≡ whole text.now) }
+    {
+        match &self.bytes {
+            Some(bytes) => Some(bytes.as_slice()),
+            None => None,
+        }
     }
 }

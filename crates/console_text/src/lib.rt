@@ -1,9 +1,8 @@
 // The console program's text (document 01, "The console program"): lines gathered from bytes, read as names, settings or changes, and printed.
-// Everything works on lent bytes and numbers; each public function equals a definition of specs/, byte for byte, for every input.
+// Nothing is allocated; each public function equals a definition of specs/, byte for byte, for every input.
 #![tactic(auto)]
 
 mod decimal;
 pub mod gather;
 pub mod parse;
-mod piece;
 pub mod print;

@@ -1,119 +1,119 @@
-// The output lines. A buffer of fewer than LINE_ROOM bytes is left as it is and the answer is 0; else the line stands at its start with its
-// newline, the rest of the buffer keeps its contents, and the answer is the line's length.
-ghost use Rattle.std.specs.Prelude.{◌≡◌, ◌+◌, ◌≤◌, length};
-ghost use Rattle.console_text.specs.Reading.{tenths_of};
+// The output lines, each with its newline. They are put together by hand: by its contract the library's `write!` may fail, and these cannot.
+ghost use Rattle.std.specs.Prelude.{◌≡◌, ◌+◌, ◌≤◌, ◌++◌, length};
+ghost use Rattle.arrayvec.specs.ArrayVec.{array_vec_len};
+ghost use Rattle.console_text.specs.Reading.{tenths_of, sign_bytes, kn_bytes};
 ghost use Rattle.console_text.specs.Decimal.{decimal};
-ghost use Rattle.console_text.specs.Output.{output_names, line, row_line, sum_line, no_line, bad_line, line_room, Printed};
-ghost use Rattle.console_text.specs.OutputLaws.{PutSign, PutKn, Started};
+ghost use Rattle.console_text.specs.Output.{output_names, line_start, line, row_line, sum_line, no_line, bad_line, line_room};
 
-use crate::decimal::{digit, put_number};
-use crate::piece::{put_byte, put_text};
+use crate::decimal::put_number;
+use arrayvec::ArrayVec;
 
 pub const LINE_ROOM: usize = 64;
 
-// The least stored word of a reading below zero, and one more than the largest.
+// A line, or what stands of it so far. There is room for every line.
+pub type OutputLine = ArrayVec<u8, LINE_ROOM>;
+
+// The least stored word of a reading below zero.
 const LEAST_BELOW: u32 = 2147483648;
 
-const WORDS: u64 = 4294967296;
-
 // "time,kind,first,second"
-pub fn put_names(out: &mut [u8]) -> usize
-    ensures { Printed output_names out.old result out.new }
+pub fn names_line() -> OutputLine
+    ensures { result.items ≡ output_names }
 {
-    if out.len() < LINE_ROOM {
-        return 0;
-    }
-    put_text(out, 0, b"time,kind,first,second\n")
+    let mut line = OutputLine::new();
+    put_text(&mut line, b"time,kind,first,second\n");
+    line
 }
 
 // T,row,TAG,KN
-pub fn put_row(out: &mut [u8], time: u32, tag: u32, reading: u32) -> usize
-    ensures { Printed (row_line time tag reading) out.old result out.new }
+pub fn row_line(time: u32, tag: u32, reading: u32) -> OutputLine
+    ensures { result.items ≡ row_line time tag reading }
 {
-    if out.len() < LINE_ROOM {
-        return 0;
-    }
-    let start = put_start(out, time, b"row", tag as u64);
-    let end = put_kn(out, start, reading);
-    put_byte(out, end, b'\n')
+    let mut line = started(time, b"row", u64::from(tag));
+    put_kn(&mut line, reading);
+    line.push(b'\n');
+    line
 }
 
 // T,sum,ROWS,BLOCKS
-pub fn put_sum(out: &mut [u8], time: u32, rows: u32, blocks: u32) -> usize
-    ensures { Printed (sum_line time rows blocks) out.old result out.new }
+pub fn sum_line(time: u32, rows: u32, blocks: u32) -> OutputLine
+    ensures { result.items ≡ sum_line time rows blocks }
 {
-    put_numbers(out, time, b"sum", rows as u64, blocks as u64)
+    numbers_line(time, b"sum", u64::from(rows), u64::from(blocks))
 }
 
 // T,no,REFUSAL,0
-pub fn put_no(out: &mut [u8], time: u32, refusal: u32) -> usize
-    ensures { Printed (no_line time refusal) out.old result out.new }
+pub fn no_line(time: u32, refusal: u32) -> OutputLine
+    ensures { result.items ≡ no_line time refusal }
 {
-    put_numbers(out, time, b"no", refusal as u64, 0)
+    numbers_line(time, b"no", u64::from(refusal), 0)
 }
 
 // 0,bad,LINE,0
-pub fn put_bad(out: &mut [u8], line: u64) -> usize
-    ensures { Printed (bad_line line) out.old result out.new }
+pub fn bad_line(number: u64) -> OutputLine
+    ensures { result.items ≡ bad_line number }
 {
-    put_numbers(out, 0, b"bad", line, 0)
+    numbers_line(0, b"bad", number, 0)
 }
 
 // A line whose second field is a number.
-fn put_numbers(out: &mut [u8], time: u32, kind: &[u8], first: u64, second: u64) -> usize
+fn numbers_line(time: u32, kind: &[u8], first: u64, second: u64) -> OutputLine
     requires { length kind.now ≤ 3 }
-    ensures { Printed (line time kind.now first (decimal second))
-        out.old result out.new }
+    ensures { result.items ≡ line time kind.now first (decimal second) }
 {
-    if out.len() < LINE_ROOM {
-        return 0;
-    }
-    let start = put_start(out, time, kind, first);
-    put_number(out, start, second, b'\n')
+    let mut line = started(time, kind, first);
+    put_number(&mut line, second);
+    line.push(b'\n');
+    line
 }
 
 // A line's time, kind and first field, each with its comma.
-fn put_start(out: &mut [u8], time: u32, kind: &[u8], first: u64) -> usize
-    requires { (length kind.now ≤ 3) × (line_room ≤ length out.old) }
-    ensures { Started time kind.now first out.old result out.new }
+fn started(time: u32, kind: &[u8], first: u64) -> OutputLine
+    requires { length kind.now ≤ 3 }
+    ensures start { result.items ≡ line_start time kind.now first }
+    ensures most { array_vec_len result ≤ 36 }
 {
-    let a = put_number(out, 0, time as u64, b',');
-    let b = put_text(out, a, kind);
-    let c = put_byte(out, b, b',');
-    put_number(out, c, first, b',')
+    let mut line = OutputLine::new();
+    put_number(&mut line, u64::from(time));
+    line.push(b',');
+    put_text(&mut line, kind);
+    line.push(b',');
+    put_number(&mut line, first);
+    line.push(b',');
+    line
+}
+
+// A text at the end of what stands.
+pub(crate) fn put_text(line: &mut OutputLine, text: &[u8])
+    requires { array_vec_len line.old + length text.now ≤ line_room }
+    ensures { line.new.items ≡ line.old.items ++ text.now }
+{
+    line.try_extend_from_slice(text).unwrap();
 }
 
 // A reading in tenths of a kN.
-fn put_kn(out: &mut [u8], at: usize, reading: u32) -> usize
-    requires { at + 24 ≤ length out.old }
-    ensures { PutKn reading at out.old result out.new }
+fn put_kn(line: &mut OutputLine, reading: u32)
+    requires { array_vec_len line.old + 24 ≤ line_room }
+    ensures kn { line.new.items ≡ line.old.items ++ kn_bytes reading }
+    ensures most { array_vec_len line.new ≤ array_vec_len line.old + 13 }
 {
     let tenths = tenths_of(reading);
-    let whole = put_sign(out, at, reading, tenths);
-    let tenth = put_number(out, whole, tenths / 10, b'.');
-    put_byte(out, tenth, digit(tenths % 10))
+    if LEAST_BELOW <= reading && 0 < tenths {
+        line.push(b'-');
+    }
+    put_number(line, tenths / 10);
+    line.push(b'.');
+    line.push(b'0' + (tenths % 10) as u8);
 }
 
 // A reading's tenths of a kN, its sign aside: half away from zero.
 fn tenths_of(reading: u32) -> u64
     ensures { result ≡ tenths_of reading }
 {
-    if reading < LEAST_BELOW {
-        return (reading as u64 + 5) / 10;
-    }
-    (WORDS - reading as u64 + 5) / 10
-}
-
-// A minus, only before tenths that are not 0.
-fn put_sign(out: &mut [u8], at: usize, reading: u32, tenths: u64) -> usize
-    requires { (at + 1 ≤ length out.old) × (tenths ≡ tenths_of reading) }
-    ensures { PutSign reading at out.old result out.new }
-{
-    if reading < LEAST_BELOW {
-        return at;
-    }
-    if tenths < 1 {
-        return at;
-    }
-    put_byte(out, at, b'-')
+    let size = if reading < LEAST_BELOW {
+        reading
+    } else {
+        u32::MAX - reading + 1
+    };
+    (u64::from(size) + 5) / 10
 }

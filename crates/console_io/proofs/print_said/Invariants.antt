@@ -1,11 +1,7 @@
--- `print_said` meets its contract: the lines are handed on in order. It ends: they are counted.
-use Prim.Native.Nat.{◌-◌}
+-- The lines so far are handed on.
 use Rattle.console_run.specs.Console.{said_lines}
 use Rattle.console_io.specs.SinkLaws.{SentTo}
 use Rattle.console_io.proofs.print_said.Given as goal
 
 abbrev pub invariant-loop-i : goal.invariant-loop-i
 invariant-loop-i l = SentTo l.initial.next (said_lines l.said l.number l.rows) l.i l.next
-
-abbrev pub decreases-loop-i : goal.decreases-loop-i
-decreases-loop-i l = l.count - l.i

@@ -1,12 +1,10 @@
 -- `feed::next_number` meets its contract.
-use borrow.Author.Tests.{lt-ltb, le-ltb}
-use Rattle.console_run.specs.Feed.{next_number}
+use Rattle.std.proofs.Common.{arith, lt-ltb, le-ltb}
+use Rattle.base.specs.Branch.{lt?}
+use Rattle.console_run.specs.Feed.{count_most, next_number}
 use Rattle.console_run.proofs.feed.next_number.Goals as goal
-
-pub returns-then-number-lt-COUNT_MOST : goal.returns-then-number-lt-COUNT_MOST
-unfolding next_number
-returns-then-number-lt-COUNT_MOST c = rw (lt-ltb _ _ c.if-number-lt-COUNT_MOST.true)
 
 pub returns : goal.returns
 unfolding next_number
-returns c = rw (le-ltb _ _ c.if-number-lt-COUNT_MOST.false)
+returns c = lt? c.args.number count_most
+    (λ a. rw (lt-ltb c.args.number count_most a) (omega arith)) (λ a. rw (le-ltb c.args.number count_most a) (omega arith))

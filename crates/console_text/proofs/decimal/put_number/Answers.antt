@@ -1,19 +1,19 @@
--- `decimal::put_number` meets its contract: the digits are put as a text, then the byte.
-use native.Mathlib.Omega.{arith}
+-- `decimal::put_number` meets its contract: what the library spells is the decimal, of at most 20 digits, and 10 for a word.
+use Rattle.std.proofs.Common.{◌∙◌, ap, ◌++◌, List, ℕ, length, arith, length-append}
+use Rattle.console_text.specs.DigitsLaws.{digits_are, digits_most, decimal_word}
 use borrow.Author.Rules.{rules}
-use Rattle.console_text.specs.DigitsLaws.{digits_most, number_put}
 use Rattle.console_text.proofs.decimal.put_number.Goals as goal
 
-pub put_text-end-requires : goal.put_text-end-requires
-put_text-end-requires c =
+pub put_text-requires : goal.put_text-requires
+put_text-requires c =
     let most = digits_most (search rules) c.decimal-count.ensures.len in
     omega arith
 
-pub put_byte-requires : goal.put_byte-requires
-put_byte-requires c =
-    let most = digits_most (search rules) c.decimal-count.ensures.len in
-    omega (arith, c.put_text-end.ensures.ends, c.requires)
+pub returns-clause-number : goal.returns-clause-number
+returns-clause-number c =
+    c.put_text.ensures ∙ ap (λ (l : List ℕ). c.args.line.now.items ++ l) (digits_are (search rules) c.decimal-count.ensures.len c.decimal-count.ensures.digits)
 
-pub returns : goal.returns
-returns c =
-    number_put (search rules) c.decimal-count.ensures.len c.decimal-count.ensures.digits c.put_text-end.ensures c.put_byte.ensures
+pub returns-clause-word : goal.returns-clause-word
+returns-clause-word c w =
+    let e = digits_are (search rules) c.decimal-count.ensures.len c.decimal-count.ensures.digits in
+    omega (arith, ap length c.put_text.ensures, length-append {A = ℕ}, ap length e, decimal_word c.args.n w)

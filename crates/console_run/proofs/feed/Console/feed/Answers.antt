@@ -1,10 +1,11 @@
 -- `feed::Console::feed` meets its contract: the line goes on, or it is taken.
-use Rattle.console_run.specs.FeedLaws.{fed_on, fed_taken}
+use Rattle.console_run.specs.Feed.{fed_by, fed}
 use Rattle.console_run.proofs.feed.Console.feed.Goals as goal
 
-pub returns-in-More : goal.returns-in-More
-returns-in-More c = fed_on _ _ _ c.feed.ensures c.in-More.is c.goes_on.ensures
+pub returns-in-Some-clause-feeds : goal.returns-in-Some-clause-feeds
+unfolding fed fed_by
+returns-in-Some-clause-feeds c = rw (← c.in-Some.ensures.answer, ← c.in-Some.ensures.next) c.take.ensures.takes
 
-pub returns-in-LineEnd : goal.returns-in-LineEnd
-returns-in-LineEnd c =
-    fed_taken _ _ _ c.feed.ensures c.in-LineEnd.is c.take.ensures
+pub returns-in-None-clause-feeds : goal.returns-in-None-clause-feeds
+unfolding fed fed_by
+returns-in-None-clause-feeds c = rw (← c.in-None.ensures.answer, ← c.in-None.ensures.next, c.goes_on.ensures)

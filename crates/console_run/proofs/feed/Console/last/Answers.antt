@@ -1,10 +1,13 @@
 -- `feed::Console::last` meets its contract: a line that is left over is taken.
-use Rattle.console_run.specs.FeedLaws.{last_taken_lem, last_quiet}
+use Rattle.std.proofs.Common.{◌∙◌}
+use Rattle.console_run.specs.Feed.{last_taken}
 use Rattle.console_run.proofs.feed.Console.last.Goals as goal
 
-pub returns-then-left_over : goal.returns-then-left_over
-returns-then-left_over c =
-    last_taken_lem _ _ _ c.left_over.ensures c.if-left_over.true c.take.ensures
+pub returns-then-not-left_over-clause-takes : goal.returns-then-not-left_over-clause-takes
+unfolding last_taken
+returns-then-not-left_over-clause-takes c = rw (← c.if-not-left_over.ensures, c.goes_on.ensures)
 
-pub returns : goal.returns
-returns c = last_quiet _ _ _ c.left_over.ensures c.if-left_over.false c.goes_on.ensures
+pub returns-clause-takes : goal.returns-clause-takes
+unfolding last_taken
+returns-clause-takes c = rw (← c.if-not-left_over.ensures)
+    (c.take.ensures.takes ∙ rw (c.replace-line.ensures.value, c.replace-line.ensures.after, c.new.ensures))

@@ -1,6 +1,0 @@
--- `finish` meets its contract: what the last step says is handed on, then what is said of a missing line.
-use Rattle.console_io.specs.SessionLaws.{finished}
-use Rattle.console_io.proofs.finish.Goals as goal
-
-pub returns : goal.returns
-returns c = finished _ _ _ c.last-step.ensures c.print_said-printed.ensures c.at_end.ensures c.print_said.ensures
