@@ -3,12 +3,11 @@
 use Rattle.std.specs.Prelude.{cond, List, [], ◌∷◌, ◌++◌, ℕ, zero, suc, ◌+◌, ◌*◌, get_or, replicate, bytes_eq, Option, Some, None}
 use Rattle.layout.specs.Sizes.{row_len}
 use Rattle.layout.specs.Settings.{settings_of}
+use Rattle.calls.specs.Calls.{Answer, Done, Shown, Numbers, Refused}
 use Rattle.calls.specs.Step.{step}
 use Rattle.applying.specs.declared.call.Call.{Call}
 use Rattle.applying.specs.declared.call.Call.TheVariants as call
-use Rattle.applying.specs.declared.call.Answer.{Answer}
-use Rattle.applying.specs.declared.call.Answer.TheVariants.{Done, Shown, Refused}
-use Rattle.applying.specs.Applied.{call_of, answer_of, buffers_after}
+use Rattle.applying.specs.Applied.{call_of, buffers_after}
 use Rattle.console_text.specs.declared.parse.Line.{Line}
 use Rattle.console_text.specs.declared.parse.Line.TheVariants as change
 use Rattle.console_text.specs.Input.{settings_names, settings_line, change_names, change_line}
@@ -54,10 +53,12 @@ bad_at Over = says Over Nothing
 abbrev pub names_do : Stage → Stage → List ℕ → List ℕ → Turn
 names_do stage next names text = cond (bytes_eq text names) (says next Nothing) (bad_at stage)
 
--- A call's answer at a time. Accepted changes and clock moves print nothing; a look-back prints rows and sum, a refused call `no`.
+-- A call's answer at a time. Accepted changes and clock moves print nothing; a look-back prints rows and sum, a refused call `no`. (None of these calls
+-- answers numbers.)
 abbrev pub answered : Stage → Stage → ℕ → Answer → Turn
 answered done refused time (Done h) = says done Nothing
-answered done refused time (Shown s) = says done (Slice time s.counts.rows s.counts.blocks)
+answered done refused time (Shown v) = says done (Slice time v.counts.rows v.counts.blocks)
+answered done refused time (Numbers l) = says refused (No time 0)
 answered done refused time (Refused n) = says refused (No time n)
 
 -- A call at a time, and what is awaited after it, accepted or refused.
@@ -65,7 +66,7 @@ unfoldable pub called : Stage → Stage → ℕ → Call → Lent → Does
 called done refused time call words =
     let reply = step words.store (call_of call words.rows words.list) in
     let after = buffers_after call words.rows words.list reply.lent in
-    does (answered done refused time (answer_of reply.answer)) (lent reply.store (get_or after 0 []) (get_or after 1 []))
+    does (answered done refused time reply.answer) (lent reply.store (get_or after 0 []) (get_or after 1 []))
 
 -- "Start is called before the third line is read; refused, it prints `no` at time 0 and ends the run."
 abbrev pub settings_do : Option (ℕ × ℕ × ℕ × ℕ) → Lent → Does

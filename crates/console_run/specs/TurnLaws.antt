@@ -1,14 +1,32 @@
 -- A call in code is a call's step.
-use Rattle.std.specs.Prelude.{◌≡◌, List, ℕ}
+use Rattle.std.specs.Prelude.{◌≡◌, refl, List, ℕ, Result, Ok, Err}
+use Rattle.std.proofs.Common.{ap, ◌∙◌}
+use Rattle.layout.specs.declared.refusal.Refusal.{Refusal}
+use Rattle.layout.specs.RefusalNumbers.{number}
+use Rattle.calls.specs.Calls as calls
+use Rattle.timeslice.specs.declared.Slice as timeslice
 use Rattle.applying.specs.declared.call.Call.{Call}
 use Rattle.applying.specs.declared.call.Answer.{Answer}
-use Rattle.applying.specs.Applied.{Applied}
+use Rattle.applying.specs.declared.call.Answer.TheVariants.{Done, Shown}
+use Rattle.applying.specs.Applied.{Says, head, view, turned, Applied}
 use Rattle.console_run.specs.declared.turn.Stage.{Stage}
+use Rattle.console_run.specs.declared.turn.Said.TheVariants.{Nothing, No, Slice}
 use Rattle.console_run.specs.declared.turn.Turn.{Turn}
-use Rattle.console_run.specs.Console.{lent, does, answered, called}
+use Rattle.console_run.specs.Console.{lent, does, says, answered, called}
 
-pub called_is : {store rows list store' rows' list' : List ℕ} {call : Call} {a : Answer} (done refused : Stage) (time : ℕ) {t : Turn}
-    → Applied store call rows list a store' rows' list' → t ≡ answered done refused time a
+-- `answered`, of what a call answers in code
+abbrev pub turn_of : Stage → Stage → ℕ → Result Answer Refusal → Turn
+turn_of done refused time (Ok (Done h)) = says done Nothing
+turn_of done refused time (Ok (Shown s)) = says done (Slice time s.counts.rows s.counts.blocks)
+turn_of done refused time (Err e) = says refused (No time (number e))
+
+turn_says : (done refused : Stage) (time : ℕ) {a : calls.Answer} {r : Result Answer Refusal} → Says a r → turn_of done refused time r ≡ answered done refused time a
+turn_says done refused time head = refl
+turn_says done refused time (view e) = ap (λ (s : timeslice.Slice). says done (Slice time s.counts.rows s.counts.blocks)) e
+turn_says done refused time (turned q) = ap (λ (n : ℕ). says refused (No time n)) q
+
+pub called_is : {store rows list store' rows' list' : List ℕ} {call : Call} {a : Result Answer Refusal} (done refused : Stage) (time : ℕ) {t : Turn}
+    → Applied store call rows list a store' rows' list' → t ≡ turn_of done refused time a
     → does t (lent store' rows' list') ≡ called done refused time call (lent store rows list)
 unfolding called
-called_is done refused time p e = rw (e, p.answer, p.store, ← p.buffers)
+called_is done refused time p e = rw (e ∙ turn_says done refused time p.answer, p.store, ← p.buffers)

@@ -1,7 +1,8 @@
 // What a line does: which line is awaited after it, what is said of it, and the register's words then.
 ghost use Rattle.std.specs.Prelude.{◌≡◌, if◌then◌else◌};
 ghost use Rattle.console_text.specs.Input.{settings_line, change_line};
-ghost use Rattle.console_run.specs.Console.{does, says, bad_at, answered, called, settings_do, asked_of, change_do, text_does, line_does};
+ghost use Rattle.console_run.specs.Console.{does, says, bad_at, called, settings_do, asked_of, change_do, text_does, line_does};
+ghost use Rattle.console_run.specs.TurnLaws.{turn_of};
 ghost use Rattle.console_run.specs.Words.{lent_of, SameLent};
 
 use crate::lent::LentWords;
@@ -9,6 +10,7 @@ use applying::{Answer, Call};
 use console_text::gather::Gather;
 use console_text::parse;
 use console_text::parse::Line;
+use layout::refusal::Refusal;
 use layout::settings::Settings;
 
 // The line that is awaited: one of the first three, a change, or none any more.
@@ -64,16 +66,16 @@ fn names(stands: bool, stage: Stage, next: Stage) -> Turn
 }
 
 // A call's answer, for a line of this time: `done` is awaited after an accepted one, `refused` after a refused one.
-fn answered(answer: Answer, time: u32, done: Stage, refused: Stage) -> Turn
-    ensures { result ≡ answered done refused time answer }
+fn answered(answer: Result<Answer, Refusal>, time: u32, done: Stage, refused: Stage) -> Turn
+    ensures { result ≡ turn_of done refused time answer }
 {
     let (next, said) = match answer {
-        Answer::Done(_) => (done, Said::Nothing),
-        Answer::Shown(slice) => (
+        Ok(Answer::Done(_)) => (done, Said::Nothing),
+        Ok(Answer::Shown(slice)) => (
             done,
             Said::Slice(time, slice.counts.rows, slice.counts.blocks),
         ),
-        Answer::Refused(n) => (refused, Said::No(time, n)),
+        Err(refusal) => (refused, Said::No(time, refusal.number())),
     };
     Turn { next, said }
 }
