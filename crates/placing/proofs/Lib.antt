@@ -1,3 +1,4 @@
 pub mod AbleLaws
+pub mod Following
 pub mod JudgeLaws
 pub mod LoopLaws

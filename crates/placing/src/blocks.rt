@@ -1,4 +1,6 @@
 // A block opens, and a block leaves the row of open blocks.
+#![tactic(auto, using(crate::proofs::Following::follows), unfolding(calls::specs::Placing::enter_time, calls::specs::Placing::open_block, calls::specs::Placing::unlink))]
+
 ghost use Rattle.std.specs.Prelude.{◌<◌};
 ghost use Rattle.layout.specs.Ran.{Ran};
 ghost use Rattle.layout.specs.Moved.{Moved};

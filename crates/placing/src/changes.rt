@@ -1,4 +1,6 @@
 // What an accepted change or clock move does to the store: the head is moved on, its clock at the call's second, stored and handed back.
+#![tactic(auto, using(crate::proofs::Following::follows), unfolding(calls::specs::Placing::clear_tag, calls::specs::Placing::finish, calls::specs::Placing::set_program, calls::specs::Placing::clear_program, calls::specs::Placing::update_program, calls::specs::Placing::advance_program))]
+
 ghost use Rattle.layout.specs.Moved.{Moved};
 ghost use Rattle.layout.specs.Able.{Able};
 ghost use Rattle.calls.specs.Placing.{clear_tag, finish, set_program, advance_program};

@@ -1,4 +1,6 @@
 // Blocks are judged: one with fewer than q standing closes, and its standing records are placed again. Room for a record is made so, too.
+#![tactic(auto, using(crate::proofs::Following::follows), unfolding(calls::specs::Placing::roll, calls::specs::Placing::make_room, calls::specs::Placing::place, calls::specs::Placing::replace))]
+
 ghost use Rattle.std.specs.Prelude.{◌≡◌, ℕ, ltb, length};
 ghost use Rattle.layout.specs.declared.settings.Settings.{Settings};
 ghost use Rattle.layout.specs.declared.head.Cursor.{Cursor};

@@ -1,4 +1,6 @@
 // A record is placed, ends, and moves to the acceptor.
+#![tactic(auto, using(crate::proofs::Following::follows), unfolding(calls::specs::Placing::end_record, calls::specs::Placing::put_record, calls::specs::Placing::move_record))]
+
 ghost use Rattle.layout.specs.Ran.{Ran};
 ghost use Rattle.layout.specs.Moved.{Moved};
 ghost use Rattle.layout.specs.Able.{Able};

@@ -1,12 +1,8 @@
 -- `changing::set` is safe: a call that goes on has a store that is long enough.
 use Rattle.decisions.specs.ReadyLaws.{go_set}
-use Rattle.array_build.specs.Kept.{kept_held}
 use Rattle.array_build.proofs.changing.set.Goals as goal
 
 pub place_new-placed-requires : goal.place_new-placed-requires
 place_new-placed-requires c =
     let a = c.args in
     (go_set a.tag c.in_ok-found.ensures).time.ready.held
-
-pub finish-requires : goal.finish-requires
-finish-requires c = kept_held c.place_new-placed.ensures

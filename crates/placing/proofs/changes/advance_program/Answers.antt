@@ -5,7 +5,3 @@ use Rattle.placing.proofs.changes.advance_program.Goals as goal
 pub finish-requires : goal.finish-requires
 unfolding advance_program
 finish-requires c = c.requires
-
-pub returns : goal.returns
-unfolding advance_program
-returns c = c.finish.ensures

@@ -27,12 +27,6 @@ finish-requires c =
     let m = c.clear_tag-cleared.ensures in
     rw m.settings (able_next (rw c.in-None.is at c.requires.able) m.ran)
 
-pub returns-in-None : goal.returns-in-None
-unfolding clear_program
-returns-in-None c =
-    let m = c.clear_tag-cleared.ensures in
-    rw c.in-None.is (onto m (rw m.settings at c.finish.ensures))
-
 pub place-renewed-requires : goal.place-renewed-requires
 unfolding update_program
 place-renewed-requires c =
@@ -45,16 +39,3 @@ finish-requires-in-Some c =
     let m = c.clear_tag-cleared.ensures in
     let n = c.place-renewed.ensures in
     rw (n.settings, m.settings) (able_next (able_next (rw c.in-Some.is at c.requires.able) m.ran) (rw m.settings at n.ran))
-
-pub returns-in-Some : goal.returns-in-Some
-unfolding update_program
-returns-in-Some c =
-    let m = c.clear_tag-cleared.ensures in
-    let n = c.place-renewed.ensures in
-    rw c.in-Some.is (onto m (onto (rw m.settings at n) (rw (n.settings, m.settings) at c.finish-in-Some.ensures)))
-
-pub shape_of-store-in-None : goal.shape_of-store-in-None
-shape_of-store-in-None c = ran_length (returns-in-None c).ran
-
-pub shape_of-store-in-Some : goal.shape_of-store-in-Some
-shape_of-store-in-Some c = ran_length (returns-in-Some c).ran

@@ -6,10 +6,3 @@ use Rattle.placing.proofs.changes.finish.Goals as goal
 
 pub write_cursor-requires : goal.write_cursor-requires
 write_cursor-requires c = rw c.at-next.ensures (able_held c.requires)
-
-pub returns : goal.returns
-unfolding finish
-returns c =
-    let e = c.at-next.ensures in
-    let w = rw e at c.write_cursor.ensures in
-    after w (moves e w.good)

@@ -13,9 +13,3 @@ unfolding set_program
 finish-requires c =
     let m = c.place-placed.ensures in
     rw m.settings (able_next c.requires m.ran)
-
-pub returns : goal.returns
-unfolding set_program
-returns c =
-    let m = c.place-placed.ensures in
-    onto m (rw m.settings at c.finish.ensures)

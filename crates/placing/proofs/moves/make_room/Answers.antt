@@ -8,11 +8,3 @@ use Rattle.placing.proofs.moves.make_room.Goals as goal
 pub roll-requires : goal.roll-requires
 unfolding make_room
 roll-requires c = let full = c.then-h-eq0.either in able_taken (search rules) c.requires
-
-pub returns-then-h-eq0 : goal.returns-then-h-eq0
-unfolding make_room
-returns-then-h-eq0 c = let full = c.then-h-eq0.either in if_taken (search rules) c.roll.ensures
-
-pub returns : goal.returns
-unfolding make_room
-returns c = if_passed (search rules) (stays refl c.requires.agree.good)

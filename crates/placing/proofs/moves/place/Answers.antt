@@ -14,9 +14,3 @@ unfolding place
 put_record-requires c =
     let m = c.make_room-with_room.ensures in
     rw m.settings (any_payload _ _ _ _ (able_next c.requires m.ran) _)
-
-pub returns : goal.returns
-unfolding place
-returns c =
-    let m = c.make_room-with_room.ensures in
-    onto m (rw (m.settings, c.told-told.ensures) at c.put_record.ensures)

@@ -10,21 +10,9 @@ pub open_block-opened-requires : goal.open_block-opened-requires
 unfolding roll
 open_block-opened-requires c = able_first c.requires
 
-pub returns-then-last-eq0 : goal.returns-then-last-eq0
-unfolding roll
-returns-then-last-eq0 c =
-    let m = c.open_block-opened.ensures in
-    after m.ran (if_taken (eq-eqb _ _ c.if-last-eq0.true) (stays m.settings m.ran.good))
-
 pub judge-requires : goal.judge-requires
 unfolding roll
 judge-requires c =
     let m = c.open_block-opened.ensures in
     rw (m.settings, judge_straight) (able_passed (ne_eqb _ _ c.if-last-eq0.false) (able_next
     c.requires m.ran))
-
-pub returns : goal.returns
-unfolding roll
-returns c =
-    let m = c.open_block-opened.ensures in
-    onto m (if_passed (ne_eqb _ _ c.if-last-eq0.false) (rw (m.settings, judge_straight) at c.judge.ensures))

@@ -1,5 +1,2 @@
 -- `moves::too_few` meets its contract: how many stand is what `count` says.
 use Rattle.placing.proofs.moves.too_few.Goals as goal
-
-pub returns : goal.returns
-returns c = rw c.count.ensures

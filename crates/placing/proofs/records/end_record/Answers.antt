@@ -1,22 +1,13 @@
--- `records::end_record` meets its contract: one step after the other.
-use Rattle.layout.specs.Ran.{then}
-use Rattle.calls.specs.Placing.{end_record}
-use Rattle.placing.proofs.AbleLaws.{writes, bits_after, end_spot}
+-- `records::end_record`: the slot is one of the block's.
+use Rattle.std.proofs.Common.{rules}
+use Rattle.placing.proofs.AbleLaws.{end_spot}
 use Rattle.placing.proofs.records.end_record.Goals as goal
 
-pub write-requires : goal.write-requires
-unfolding end_record
-write-requires c = let all = writes _ c.requires in record { valid = all.0; held = all.1 }
+pub write-requires-clause-valid : goal.write-requires-clause-valid
+write-requires-clause-valid c = let p = end_spot _ _ _ c.requires in search rules
 
-pub read-bits-requires : goal.read-bits-requires
-read-bits-requires c = let all = bits_after (end_spot _ _ _ c.requires) c.write.ensures in record { valid = all.0; held = all.1 }
+pub read-bits-requires-clause-valid : goal.read-bits-requires-clause-valid
+read-bits-requires-clause-valid c = let p = end_spot _ _ _ c.requires in search rules
 
-pub write-requires-2 : goal.write-requires-2
-write-requires-2 c =
-    let all = bits_after (end_spot _ _ _ c.requires)
-    c.read-bits.ensures in record { valid = all.0; held = all.1 }
-
-pub returns : goal.returns
-unfolding end_record
-returns c =
-    then c.write.ensures (then c.read-bits.ensures (rw (← c.bit_off.ensures) c.write-2.ensures))
+pub write-requires-2-clause-valid : goal.write-requires-2-clause-valid
+write-requires-2-clause-valid c = let p = end_spot _ _ _ c.requires in search rules

@@ -13,9 +13,3 @@ unfolding replace
 move_record-requires c =
     let m = c.make_room-with_room.ensures in
     rw m.settings (able_next c.requires m.ran)
-
-pub returns : goal.returns
-unfolding replace
-returns c =
-    let m = c.make_room-with_room.ensures in
-    onto m (rw m.settings at c.move_record.ensures)
