@@ -1,181 +1,72 @@
 // One worked case: NAME.in through the console, against NAME.out.
-use console_io::sink;
-use console_io::sink::{Next, Sink};
-use console_run::feed::{COUNT_MOST, next_number};
+use crate::System;
+use arrayvec::ArrayString;
+use console_io::sink::Sink;
+use console_run::feed::next_number;
 use console_text::gather::LINE_MOST;
+use std::fmt::Write;
 use std::fs;
 use std::fs::File;
+use std::io::Read;
 use std::os::fd::AsRawFd;
-use std::rt::Files;
 
-pub(crate) const STDOUT: i32 = 1;
+const STDOUT: i32 = 1;
 
-// A name with its ending fits a line of `cases`.
-const NAME_MOST: usize = LINE_MOST - 4;
-
-fn put(line: &mut [u8; LINE_MOST], at: usize, byte: u8) {
-    if at < LINE_MOST {
-        line[at] = byte;
-    }
+// A case's file of this ending; a name with its ending fits a line of `cases`.
+pub(crate) fn open(rt: &impl System, name: &str, ending: &str) -> Option<File> {
+    let mut path = ArrayString::<LINE_MOST>::new();
+    write!(path, "{name}.{ending}").ok()?;
+    fs::open(rt, path.as_str()).ok()
 }
 
-// The file that the first `len` bytes name.
-fn open_start<R: Files<File = File>>(rt: &R, line: &[u8], len: usize) -> Option<File> {
-    if line.len() < len {
-        return None;
-    }
-    let Ok(name) = str::from_utf8(&line[..len]) else {
-        return None;
-    };
-    fs::open(rt, name).ok()
-}
-
-// An open file's descriptor; where there is none, one that gives nothing.
-pub(crate) fn descriptor(file: &Option<File>) -> i32 {
-    match file {
-        Some(open) => open.as_raw_fd(),
-        None => -1,
-    }
-}
-
-pub(crate) fn open_in<R: Files<File = File>>(
-    rt: &R,
-    line: &mut [u8; LINE_MOST],
-    len: usize,
-) -> Option<File> {
-    if NAME_MOST < len {
-        return None;
-    }
-    put(line, len, b'.');
-    put(line, len + 1, b'i');
-    put(line, len + 2, b'n');
-    open_start(rt, line, len + 3)
-}
-
-fn open_out<R: Files<File = File>>(rt: &R, line: &mut [u8; LINE_MOST], len: usize) -> Option<File> {
-    if NAME_MOST < len {
-        return None;
-    }
-    put(line, len, b'.');
-    put(line, len + 1, b'o');
-    put(line, len + 2, b'u');
-    put(line, len + 3, b't');
-    open_start(rt, line, len + 4)
-}
-
-// A name is then shorter by four bytes.
-pub(crate) fn open_windows<R: Files<File = File>>(
-    rt: &R,
-    line: &mut [u8; LINE_MOST],
-    len: usize,
-) -> Option<File> {
-    if NAME_MOST - 4 < len {
-        return None;
-    }
-    put(line, len, b'.');
-    put(line, len + 1, b'w');
-    put(line, len + 2, b'i');
-    put(line, len + 3, b'n');
-    put(line, len + 4, b'd');
-    put(line, len + 5, b'o');
-    put(line, len + 6, b'w');
-    put(line, len + 7, b's');
-    open_start(rt, line, len + 8)
-}
-
-// The name, and what is said of it.
-pub(crate) fn tell(line: &[u8], len: usize, what: &[u8]) {
-    if line.len() < len {
-        return;
-    }
-    io::write_all(STDOUT, &line[..len]);
-    io::write_all(STDOUT, what);
-}
-
-// One line of what a descriptor gives, counted from 1.
-fn show_line(fd: i32, number: u64) {
-    let mut at: u64 = 1;
-    let mut bytes = COUNT_MOST;
-    while 0 < bytes {
-        let Next::Byte(byte) = sink::next_byte(fd) else {
-            io::write_all(STDOUT, b"(no such line)\n");
-            return;
-        };
-        if at == number {
-            let one = [byte];
-            io::write_all(STDOUT, &one);
-        }
-        if byte == b'\n' {
+// One line of a file, counted from 1.
+pub(crate) fn show_line(file: Option<File>, number: u64) {
+    if let Some(file) = file {
+        let mut at: u64 = 1;
+        for byte in file.bytes().map_while(|byte| byte.ok()) {
             if at == number {
-                return;
+                io::write_all(STDOUT, &[byte]);
             }
-            at = next_number(at);
+            if byte == b'\n' {
+                if at == number {
+                    return;
+                }
+                at = next_number(at);
+            }
         }
-        bytes -= 1;
     }
-}
-
-fn show_expected<R: Files<File = File>>(
-    rt: &R,
-    line: &mut [u8; LINE_MOST],
-    len: usize,
-    number: u64,
-) {
-    let expected = open_out(rt, line, len);
-    show_line(descriptor(&expected), number);
-}
-
-pub(crate) fn show_window<R: Files<File = File>>(
-    rt: &R,
-    line: &mut [u8; LINE_MOST],
-    len: usize,
-    number: u64,
-) {
-    let expected = open_windows(rt, line, len);
-    show_line(descriptor(&expected), number);
+    io::write_all(STDOUT, b"(no such line)\n");
 }
 
 // The console runs once more, and of its lines that one alone is written.
-fn show_printed<R: Files<File = File>>(
-    rt: &R,
-    line: &mut [u8; LINE_MOST],
-    len: usize,
-    number: u64,
-) {
-    let input = open_in(rt, line, len);
-    if let Sink::Pick(_, left) = console_io::run(descriptor(&input), Sink::Pick(STDOUT, number)) {
-        if left != 0 {
-            io::write_all(STDOUT, b"(no such line)\n");
-        }
+fn show_printed(input: Option<File>, number: u64) {
+    let pick = Sink::Pick(STDOUT, number);
+    let left = match input {
+        Some(mut input) => console_io::run_over(&mut input, pick),
+        None => pick,
+    };
+    if let Sink::Pick(_, 1..) = left {
+        io::write_all(STDOUT, b"(no such line)\n");
     }
 }
 
-// Whether the case that the first `len` bytes of a line of `cases` name agrees; if not, it says so.
-pub(crate) fn agrees<R: Files<File = File>>(
-    rt: &R,
-    line: &mut [u8; LINE_MOST],
-    len: usize,
-) -> bool {
-    let Some(input) = open_in(rt, line, len) else {
-        tell(line, len, b": its .in file is missing\n");
-        return false;
+// Whether the case of this name agrees; if not, it says so.
+pub(crate) fn agrees(rt: &impl System, name: &str) -> std::io::Result<bool> {
+    let Some(mut input) = open(rt, name, "in") else {
+        println!(rt; "{name}: its .in file is missing")?;
+        return Ok(false);
     };
-    let Some(expected) = open_out(rt, line, len) else {
-        tell(line, len, b": its .out file is missing\n");
-        return false;
+    let Some(expected) = open(rt, name, "out") else {
+        println!(rt; "{name}: its .out file is missing")?;
+        return Ok(false);
     };
-    let compared = Sink::Compare(expected.as_raw_fd(), 0);
-    let difference = sink::first_difference(console_io::run(input.as_raw_fd(), compared));
-    drop(input);
-    drop(expected);
-    if difference == 0 {
-        return true;
-    }
-    tell(line, len, b": the output differs at line ");
-    io::print_decimal(STDOUT, difference);
-    io::write_all(STDOUT, b"\nexpected: ");
-    show_expected(rt, line, len, difference);
-    io::write_all(STDOUT, b"printed:  ");
-    show_printed(rt, line, len, difference);
-    false
+    let compared = console_io::run_over(&mut input, Sink::Compare(expected.as_raw_fd(), 0));
+    let Some(line) = compared.first_difference() else {
+        return Ok(true);
+    };
+    print!(rt; "{name}: the output differs at line {line}\nexpected: ")?;
+    show_line(open(rt, name, "out"), line);
+    print!(rt; "printed:  ")?;
+    show_printed(open(rt, name, "in"), line);
+    Ok(false)
 }

@@ -1,5 +1,6 @@
--- `windows::play` ends: the bytes are counted down.
+-- The words are those that were lent.
+use Rattle.console_run.specs.Words.{SameLent}
 use Rattle.worked.proofs.windows.play.Given as goal
 
-abbrev pub decreases-loop-bytes : goal.decreases-loop-bytes
-decreases-loop-bytes l = l.bytes
+abbrev pub invariant-loop-byte : goal.invariant-loop-byte
+invariant-loop-byte l = SameLent l.initial.lent l.lent
