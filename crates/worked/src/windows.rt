@@ -9,7 +9,6 @@ use console_text::parse::Line;
 use std::fs::File;
 use std::io::Read;
 use std::{fmt, io};
-use window::WindowAnswer;
 
 // The console's store, and buffers that are large enough for every settings.
 const STORE: usize = 16000;
@@ -66,8 +65,8 @@ impl Asked<'_> {
     fn take_window(&mut self, line: &[u8]) -> Result<(), Given> {
         let (first, last, count, refusal) = parse::parse_settings(line).ok_or(Given::NoLine)?;
         let (given, refused) = match window::window(self.store, first, last, &mut self.rows) {
-            WindowAnswer::Rows(given) => (given, 0),
-            WindowAnswer::Refused(number) => (0, number),
+            Ok(given) => (given, 0),
+            Err(refusal) => (0, refusal.number()),
         };
         if (given, refused) != (count, refusal) {
             return Err(Given::Answer(given, refused));
