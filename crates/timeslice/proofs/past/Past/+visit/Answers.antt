@@ -1,7 +1,6 @@
 -- `visit` and `visit_inside` meet their contracts: each way out of a link, and of the two visits inside a block, is a law of visits.
 use Rattle.std.proofs.Common.{arith}
-use Rattle.timeslice.specs.Reading.{unsound_is}
-use Rattle.timeslice.specs.ListedLaws.{visit_none, visit_low, visit_high, visit_ended, visit_goes, inside_stops, left_room, inside_goes}
+use Rattle.timeslice.specs.ListedLaws.{visit_none, visit_low, visit_high, visit_ended, visit_goes, left_room, inside_goes}
 use Rattle.timeslice.proofs.past.Past.+visit.Goals as goal
 
 pub visit-returns-then-number-eq0 : goal.visit-returns-then-number-eq0
@@ -22,12 +21,6 @@ pub visit-returns : goal.visit-returns
 visit-returns t c =
     visit_goes c.if-number-lower.false c.if-upper-number.false c.block-block.ensures.read
     c.block_word-closed.ensures c.if-closed-self.false c.visit_inside.ensures
-
--- ---- inside
-pub visit_inside-returns-in_err-after : goal.visit_inside-returns-in_err-after
-visit_inside-returns-in_err-after t c =
-    rw (unsound_is c.from_residual.ensures.0)
-    (inside_stops c.requires c.block-block.ensures.read c.block_word-child.ensures c.visit.ensures c.in_err-after.was)
 
 pub visit_inside-visit-requires-2 : goal.visit_inside-visit-requires-2
 visit_inside-visit-requires-2 t c = (

@@ -1,6 +1,6 @@
 -- `climb` meets its contract: an up that is not below is refused before the block is listed.
 use Rattle.timeslice.specs.Reading.{unsound_is}
-use Rattle.timeslice.specs.PathLaws.{lies_under, climb_above, climb_full, climb_on}
+use Rattle.timeslice.specs.PathLaws.{climb_above, climb_full, climb_on}
 use Rattle.timeslice.proofs.past.Past.climb.Goals as goal
 
 pub returns-then-number-up : goal.returns-then-number-up
@@ -12,11 +12,6 @@ returns-in_err-given c =
     rw (unsound_is c.from_residual.ensures.0)
     (climb_full _ _ c.block-block.ensures.read c.block_word-up.ensures c.if-number-up.false
     c.take_rows.ensures c.in_err-given.was)
-
-pub neighbour-next-requires : goal.neighbour-next-requires
-neighbour-next-requires c =
-    lies_under _ _ c.block-block.ensures.read c.block_word-up.ensures c.requires.numbered
-    c.if-number-up.false
 
 pub returns : goal.returns
 returns c =

@@ -1,5 +1,5 @@
 -- `neighbour` meets its contract: the left of a closed block, else the last child of its up, which is the head's for block 0.
-use Rattle.timeslice.specs.PathLaws.{own_left, root_child, up_child, root_is, up_numbered}
+use Rattle.timeslice.specs.PathLaws.{own_left, root_child, up_child, root_is}
 use Rattle.timeslice.proofs.past.Past.neighbour.Goals as goal
 
 pub returns-then-block_word : goal.returns-then-block_word
@@ -11,10 +11,6 @@ pub returns-then-up-eq0 : goal.returns-then-up-eq0
 returns-then-up-eq0 c =
     root_child _ _ c.block-block.ensures.read c.block_word.ensures c.if-block_word.false
     c.block_word-up.ensures c.if-up-eq0.true (root_is c.args.self.now)
-
-pub block-above-requires : goal.block-above-requires
-block-above-requires c =
-    up_numbered _ _ c.block-block.ensures.read c.block_word-up.ensures c.requires c.if-up-eq0.false
 
 pub returns : goal.returns
 returns c =
