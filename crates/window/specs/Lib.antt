@@ -1,3 +1,4 @@
+pub mod Opened
 pub mod Windowed
 pub mod Noted
 pub mod LatestLaws

@@ -1,6 +1,5 @@
 -- WHAT A WINDOW ANSWERS IN CODE, and the words that it leaves: those of the definition (calls, `window`), on any words and any buffer.
 use Rattle.std.specs.Prelude.{◌≡◌, Bool, true, false, List, [], ◌∷◌, ℕ, ◌*◌, ◌≤◌, length}
-use Rattle.layout.specs.declared.head.Head.{Head}
 use Rattle.layout.specs.Sizes.{row_len}
 use Rattle.layout.specs.RefusalNumbers.{UNSOUND}
 use Rattle.layout.specs.Head.{head_of}
@@ -9,6 +8,7 @@ use Rattle.calls.specs.LookBack.{row_words, written, zeros}
 use Rattle.calls.specs.Range.{crossing}
 use Rattle.calls.specs.Window.{window_rows, unknown_tag, window_own, window}
 use Rattle.queries.specs.Own.{OwnRefusal}
+use Rattle.window.specs.declared.span.Span.{Span}
 use Rattle.window.specs.declared.WindowAnswer.{WindowAnswer}
 use Rattle.window.specs.declared.WindowAnswer.TheVariants.{Rows, Refused}
 
@@ -30,12 +30,12 @@ abbrev pub reads_unknown : List ℕ → ℕ → ℕ → Bool
 reads_unknown ws first last = unknown_tag (head_of ws).settings.tags (crossing first last ws)
 
 -- a window to which no refusal but 12 applies
-pub data Answers (ws : List ℕ) (first last : ℕ) (rows : List ℕ) : WindowAnswer → List ℕ → Type 0 where
-  answered : {n : ℕ} {rows' : List ℕ} → reads_unknown ws first last ≡ false → n ≡ length (rows_of ws first last)
-      → rows' ≡ written (row_words (rows_of ws first last)) rows → Answers ws first last rows (Rows n) rows'
-  refused : {rows' : List ℕ} → reads_unknown ws first last ≡ true → rows' ≡ zeros rows → Answers ws first last rows (Refused UNSOUND) rows'
+pub data Answers (w : Span) (rows : List ℕ) : WindowAnswer → List ℕ → Type 0 where
+  answered : {n : ℕ} {rows' : List ℕ} → reads_unknown w.store.now w.first w.last ≡ false → n ≡ length (rows_of w.store.now w.first w.last)
+      → rows' ≡ written (row_words (rows_of w.store.now w.first w.last)) rows → Answers w rows (Rows n) rows'
+  refused : {rows' : List ℕ} → reads_unknown w.store.now w.first w.last ≡ true → rows' ≡ zeros rows → Answers w rows (Refused UNSOUND) rows'
 
 -- what its own tests come to before any record is read, for a buffer of this length: n is the first of 5, 14, 7 and 11 that applies; or 0, and the
 -- buffer is long enough
-pub record WindowRefusal (h : Head) (first last rows n : ℕ) : Type 0 where
-  pub own : OwnRefusal (λ unsound. window_own h first last rows unsound) (row_len * h.settings.tags ≤ rows) n
+pub record WindowRefusal (w : Span) (rows n : ℕ) : Type 0 where
+  pub own : OwnRefusal (λ unsound. window_own w.head w.first w.last rows unsound) (row_len * w.head.settings.tags ≤ rows) n

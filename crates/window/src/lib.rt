@@ -4,16 +4,17 @@
 
 mod latest;
 mod rows;
+mod span;
 
-ghost use Rattle.std.specs.Prelude.{◌≡◌, ◌||◌};
-ghost use Rattle.layout.specs.Settings.{Within};
-ghost use Rattle.calls.specs.Refusals.{is_open};
-ghost use Rattle.queries.specs.Readable.{Readable};
 ghost use Rattle.window.specs.Windowed.{Windowed, Answers, WindowRefusal};
 ghost use Rattle.window.specs.Noted.{LongRows};
 
-use layout::head::Head;
 use layout::{head, parts, refusal};
+use span::Span;
+
+// A record that the window reads has a tag of D or more: its store is unsound.
+#[derive(Clone, Copy)]
+pub(crate) struct Unsound;
 
 // How many rows are given, or a refusal.
 #[derive(Clone, Copy)]
@@ -22,49 +23,40 @@ pub enum WindowAnswer {
     Refused(u32),
 }
 
-// One of the two times is OPEN.
-fn either_open(first: u32, last: u32) -> bool
-    ensures { result ≡ (is_open first || is_open last) }
-{
-    if first == layout::OPEN {
-        return true;
+impl Span<'_> {
+    // Refusals 5, 14, 7 and 11, in order, for a store that was opened; 0 if none applies.
+    fn turned_away(&self, rows: usize) -> u32
+        ensures { WindowRefusal self.now rows result }
+    {
+        if self.first == layout::OPEN || self.last == layout::OPEN {
+            return refusal::TIME_OPEN;
+        }
+        if self.last < self.first {
+            return refusal::REVERSED;
+        }
+        if self.head.cursor.clock < self.last {
+            return refusal::LATE;
+        }
+        if rows < layout::ROW_LEN * self.head.settings.tags as usize {
+            return refusal::SHORT_BUFFER;
+        }
+        0
     }
-    last == layout::OPEN
-}
 
-// Refusals 5, 14, 7 and 11, in order, for a store that was opened; 0 if none applies.
-fn turned_away(h: Head, first: u32, last: u32, rows: usize) -> u32
-    requires { Within h.settings }
-    ensures { WindowRefusal h first last rows result }
-{
-    let either = either_open(first, last);
-    if either {
-        return refusal::TIME_OPEN;
+    // The latest record of each tag is noted, then the rows are put; where a record is unsound, refusal 12 fills the buffer with zeros.
+    fn answer(&self, rows: &mut [u32]) -> WindowAnswer
+        requires { LongRows self.now rows.old }
+        ensures { Answers self.now rows.old result rows.new }
+    {
+        let mut best = [0; 4096];
+        match self.note_blocks(&mut best) {
+            Ok(()) => WindowAnswer::Rows(self.put_rows(&best, rows)),
+            Err(Unsound) => {
+                parts::zero_all(rows);
+                WindowAnswer::Refused(refusal::UNSOUND)
+            }
+        }
     }
-    if last < first {
-        return refusal::REVERSED;
-    }
-    if h.cursor.clock < last {
-        return refusal::LATE;
-    }
-    if rows < layout::ROW_LEN * h.settings.tags as usize {
-        return refusal::SHORT_BUFFER;
-    }
-    0
-}
-
-// The latest record of each tag is noted, then the rows are put; a tag of D or more is refusal 12, which fills the buffer with zeros.
-fn answer(store: &[u32], h: Head, first: u32, last: u32, rows: &mut [u32]) -> WindowAnswer
-    requires readable { Readable store.now h }
-    requires long_rows { LongRows h.settings rows.old }
-    ensures { Answers store.now first last rows.old result rows.new }
-{
-    let mut best = [0u32; 4096];
-    if !latest::note_blocks(store, h, first, last, &mut best) {
-        parts::zero_all(rows);
-        return WindowAnswer::Refused(refusal::UNSOUND);
-    }
-    WindowAnswer::Rows(rows::put_rows(store, h.settings, &best, rows))
 }
 
 // What stood at some second from `first` to `last`, both included. Refused for the first reason that applies, on any words.
@@ -75,10 +67,16 @@ pub fn window(store: &[u32], first: u32, last: u32, rows: &mut [u32]) -> WindowA
     if n != 0 {
         return WindowAnswer::Refused(n);
     }
-    let h = head::head_of(store);
-    let m = turned_away(h, first, last, rows.len());
+    let head = head::head_of(store);
+    let span = Span {
+        store,
+        head,
+        first,
+        last,
+    };
+    let m = span.turned_away(rows.len());
     if m != 0 {
         return WindowAnswer::Refused(m);
     }
-    answer(store, h, first, last, rows)
+    span.answer(rows)
 }
