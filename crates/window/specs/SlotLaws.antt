@@ -37,13 +37,13 @@ module _ (first last : ℕ) (block : List ℕ) (k : ℕ) {from to : ℕ}
   unfolding stood_in
   from_later h = rw (lt-leb (slot_word block k from_word) last (rw is-from at h))
 
-  pub to_before : from ≤ last → ltb first to ≡ false → false ≡ stood_in first last (record_in s n block k)
+  pub to_before : from ≤ last → to ≤ first → false ≡ stood_in first last (record_in s n block k)
   unfolding stood_in
-  to_before g h = rw (le-leb (slot_word block k from_word) last (rw is-from at g), rw is-to at h)
+  to_before g h = rw (le-leb (slot_word block k from_word) last (rw is-from at g), le-ltb first (slot_word block k to_word) (rw is-to at h))
 
-  pub by_both : from ≤ last → ltb first to ≡ true → ltb from to ≡ stood_in first last (record_in s n block k)
+  pub by_both : from ≤ last → first < to → ltb from to ≡ stood_in first last (record_in s n block k)
   unfolding stood_in
-  by_both g h = rw (is-from, is-to, le-leb (slot_word block k from_word) last (rw is-from at g), rw is-to at h)
+  by_both g h = rw (is-from, is-to, le-leb (slot_word block k from_word) last (rw is-from at g), lt-ltb first (slot_word block k to_word) (rw is-to at h))
 
 -- ---- the later of two
 pub slot_below : {s : Settings} → Within s → (p : ℕ) → slot_of s p < s.block

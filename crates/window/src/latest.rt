@@ -30,7 +30,10 @@ impl Span<'_> {
     {
         let from = parts::slot_word(block, k, fields::FROM);
         let to = parts::slot_word(block, k, fields::TO);
-        from <= self.last && self.first < to && from < to
+        if self.last < from || to <= self.first {
+            return false;
+        }
+        from < to
     }
 
     // The later of the record noted at a place, if there is one, and a record of a greater place that stands from `from` on.
