@@ -1,5 +1,5 @@
 -- THE LATEST RECORD OF EACH TAG, kept by its place in an array: what the array says of the records met so far, in the order of their places.
-use Rattle.std.specs.Prelude.{◌≡◌, Bool, true, false, cond, List, [], ◌∷◌, ◌++◌, ℕ, ◌+◌, ◌*◌, ◌-◌, ◌≤◌, ◌<◌, eqb, leb, length, get_or}
+use Rattle.std.specs.Prelude.{◌≡◌, false, true, cond, List, [], ◌∷◌, ◌++◌, ℕ, ◌+◌, ◌*◌, ◌-◌, ◌≤◌, ◌<◌, eqb, leb, length, get_or, refl, Result, Ok, Err, IsErr}
 use Rattle.std.proofs.lemmas.List.Edits.{sets}
 use Rattle.base.specs.Lists.{joined, those}
 use Rattle.base.specs.Sums.{All}
@@ -10,9 +10,20 @@ use Rattle.layout.specs.Address.{Numbered}
 use Rattle.layout.specs.Places.{block_of, slot_of}
 use Rattle.calls.specs.Calls.{Row}
 use Rattle.calls.specs.Walk.{Reader}
-use Rattle.calls.specs.LookBack.{row_words}
-use Rattle.calls.specs.Range.{PlacedRecord, record_in, read_records, stood_in}
+use Rattle.calls.specs.LookBack.{row_words, reader}
+use Rattle.calls.specs.Range.{PlacedRecord, record_in, read_records, stood_in, crossing}
 use Rattle.calls.specs.Window.{latest, of_tag, shown_row, unknown_tag}
+use Rattle.window.specs.declared.Unsound.{Unsound}
+use Rattle.window.specs.declared.span.Span.{Span}
+
+-- what a window reads, in the words of its definition: the reader that the store is
+abbrev pub reader_of : Span → Reader
+reader_of w = reader w.opened.store.now
+
+-- the one way in which a part of a window fails
+pub unsound_is : {A : Type 0} {x : Result A Unsound} → IsErr x → x ≡ Err (record {})
+unsound_is {x = Err e} h = refl
+unsound_is {x = Ok a} h = cc
 
 -- ---- the records met
 -- all records of the blocks before n that are read, and the first k of block n, which is read
@@ -49,24 +60,35 @@ pub record Noted (s : Settings) (R : Reader) (l : List PlacedRecord) (most : ℕ
   pub known : unknown_tag s.tags l ≡ false
 
 -- what noting them answers: so it is, or one of them has a tag of D or more
-pub data Notes (s : Settings) (R : Reader) (l : List PlacedRecord) (most : ℕ) : Bool → List ℕ → Type 0 where
-  noted : {best : List ℕ} → Noted s R l most best → Notes s R l most true best
-  unknown : {best : List ℕ} → unknown_tag s.tags l ≡ true → Notes s R l most false best
+pub data Notes (s : Settings) (R : Reader) (l : List PlacedRecord) (most : ℕ) : Result (Unit {0}) Unsound → List ℕ → Type 0 where
+  noted : {best : List ℕ} → Noted s R l most best → Notes s R l most (Ok tt) best
+  unknown : {e : Unsound} {best : List ℕ} → unknown_tag s.tags l ≡ true → Notes s R l most (Err e) best
 
 -- the same of the records in the first m blocks,
-module _ (first last : ℕ) (s : Settings) (R : Reader) where
+module _ (w : Span) where
+  abbrev pub blocks_stood : ℕ → List PlacedRecord
+  blocks_stood m = stood w.first w.last (read_records w.first w.last w.opened.head.settings (reader_of w) m)
+
   abbrev pub NotedBlocks : ℕ → List ℕ → Type 0
-  NotedBlocks m best = Noted s R (stood first last (read_records first last s R m)) (m * s.block) best
+  NotedBlocks m best = Noted w.opened.head.settings (reader_of w) (blocks_stood m) (m * w.opened.head.settings.block) best
 
-  abbrev pub NotesBlocks : ℕ → Bool → List ℕ → Type 0
-  NotesBlocks m answer best = Notes s R (stood first last (read_records first last s R m)) (m * s.block) answer best
+  abbrev pub NotesBlocks : ℕ → Result (Unit {0}) Unsound → List ℕ → Type 0
+  NotesBlocks m answer best = Notes w.opened.head.settings (reader_of w) (blocks_stood m) (m * w.opened.head.settings.block) answer best
 
-  -- and of those before block n with its first k slots
+  -- of those before block n with its first k slots,
+  abbrev pub slots_stood : ℕ → ℕ → List PlacedRecord
+  slots_stood n k = stood w.first w.last (records_to w.first w.last w.opened.head.settings (reader_of w) n k)
+
   abbrev pub NotedTo : ℕ → ℕ → List ℕ → Type 0
-  NotedTo n k best = Noted s R (stood first last (records_to first last s R n k)) ((n - 1) * s.block + k) best
+  NotedTo n k best = Noted w.opened.head.settings (reader_of w) (slots_stood n k) ((n - 1) * w.opened.head.settings.block + k) best
 
-  abbrev pub NotesTo : ℕ → ℕ → Bool → List ℕ → Type 0
-  NotesTo n k answer best = Notes s R (stood first last (records_to first last s R n k)) ((n - 1) * s.block + k) answer best
+  abbrev pub NotesTo : ℕ → ℕ → Result (Unit {0}) Unsound → List ℕ → Type 0
+  NotesTo n k answer best = Notes w.opened.head.settings (reader_of w) (slots_stood n k) ((n - 1) * w.opened.head.settings.block + k) answer best
+
+  -- and of all that the window reads
+  abbrev pub NotesAll : Result (Unit {0}) Unsound → List ℕ → Type 0
+  NotesAll answer best =
+      Notes w.opened.head.settings (reader_of w) (crossing w.first w.last w.opened.store.now) (w.opened.head.cursor.opened * w.opened.head.settings.block) answer best
 
 -- a place that is 0 or names a record of the store; all those of an array are
 pub record Named (s : Settings) (p : ℕ) : Type 0 where
@@ -95,11 +117,11 @@ unfoldable pub best_rows : Settings → Reader → List ℕ → ℕ → List Row
 best_rows s R best tags = joined (λ tag. row_at s R (get_or best tag 0)) tags
 
 -- they stand in the buffer
-pub record Rowed (s : Settings) (R : Reader) (best : List ℕ) (tags : ℕ) (before : List ℕ) (n : ℕ) (after : List ℕ) : Type 0 where
-  pub counts : n ≡ length (best_rows s R best tags)
+pub record Rowed (w : Span) (best : List ℕ) (tags : ℕ) (before : List ℕ) (n : ℕ) (after : List ℕ) : Type 0 where
+  pub counts : n ≡ length (best_rows w.opened.head.settings (reader_of w) best tags)
   pub most : n ≤ tags
-  pub words : after ≡ sets before 0 (row_words (best_rows s R best tags))
+  pub words : after ≡ sets before 0 (row_words (best_rows w.opened.head.settings (reader_of w) best tags))
 
 -- the buffer has room for a row of each tag: refusal 11 does not apply
-pub record LongRows (s : Settings) (rows : List ℕ) : Type 0 where
-  pub long : row_len * s.tags ≤ length rows
+pub record LongRows (w : Span) (rows : List ℕ) : Type 0 where
+  pub long : row_len * w.opened.head.settings.tags ≤ length rows

@@ -17,7 +17,8 @@ use Rattle.calls.specs.Walk.{Reader}
 use Rattle.calls.specs.LookBack.{row_words}
 use Rattle.calls.specs.Window.{shown_row}
 use Rattle.queries.specs.RowLaws.{rows_append}
-use Rattle.window.specs.Noted.{record_at, row_at, best_rows, Puts, Rowed}
+use Rattle.window.specs.declared.span.Span.{Span}
+use Rattle.window.specs.Noted.{reader_of, record_at, row_at, best_rows, Puts, Rowed}
 
 add_two : (n : ℕ) → n + 2 ≡ suc (suc n)
 add_two n = omega arith
@@ -46,27 +47,33 @@ module _ (s : Settings) (R : Reader) where
       rw (row_is p h, ← words_at p e f g i j, add-one (row_len * given), add_two (row_len * given))
       (record { counts = omega arith; most = omega arith; words = refl })
 
-  -- ---- the rows of the tags so far
-  module _ (best before : List ℕ) where
-    pub rowed_none : Rowed s R best 0 before 0 before
-    unfolding best_rows joined
-    rowed_none = record { counts = refl; most = omega arith; words = refl }
+-- ---- the rows of the tags so far
+module _ (w : Span) (best before : List ℕ) where
+  abbrev s : Settings
+  s = w.opened.head.settings
 
-    rows_more : (tag : ℕ) → best_rows s R best (tag + 1) ≡ best_rows s R best tag ++ row_at s R (get_or best tag 0)
-    unfolding best_rows
-    rows_more tag = joined_more (λ t. row_at s R (get_or best t 0)) tag
+  abbrev R : Reader
+  R = reader_of w
 
-    pub rowed_more : {tag given n p : ℕ} {mid after : List ℕ} → Rowed s R best tag before given mid → p ≡ get_or best tag 0
-        → Puts mid given (row_at s R p) n after → Rowed s R best (tag + 1) before n after
-    rowed_more {tag} {given} {n} {p} {mid} {after} r e q =
-        let e' : 0 + length (best_rows s R best tag) ≡ length (best_rows s R best tag) = omega arith in
-        let behind = rw e' at (rows_append before 0 (best_rows s R best tag) (row_at s R (get_or best tag 0))) in
-        let q' : Puts mid given (row_at s R (get_or best tag 0)) n after = rw e at q in
-        record {
-          counts = rw (rows_more tag) (simp length-append (omega (arith, q'.counts, r.counts)));
-          most = omega (arith, q'.most, r.most);
-          words = q'.words ∙ rw (r.words, r.counts, rows_more tag) (sym behind);
-        }
+  pub rowed_none : Rowed w best 0 before 0 before
+  unfolding best_rows joined
+  rowed_none = record { counts = refl; most = omega arith; words = refl }
 
-    pub rowed_length : {tag n : ℕ} {after : List ℕ} → Rowed s R best tag before n after → length after ≡ length before
-    rowed_length {tag} r = rw r.words (length-sets before 0 (row_words (best_rows s R best tag)))
+  rows_more : (tag : ℕ) → best_rows s R best (tag + 1) ≡ best_rows s R best tag ++ row_at s R (get_or best tag 0)
+  unfolding best_rows
+  rows_more tag = joined_more (λ t. row_at s R (get_or best t 0)) tag
+
+  pub rowed_more : {tag given n p : ℕ} {mid after : List ℕ} → Rowed w best tag before given mid → p ≡ get_or best tag 0
+      → Puts mid given (row_at s R p) n after → Rowed w best (tag + 1) before n after
+  rowed_more {tag} {given} {n} {p} {mid} {after} r e q =
+      let e' : 0 + length (best_rows s R best tag) ≡ length (best_rows s R best tag) = omega arith in
+      let behind = rw e' at (rows_append before 0 (best_rows s R best tag) (row_at s R (get_or best tag 0))) in
+      let q' : Puts mid given (row_at s R (get_or best tag 0)) n after = rw e at q in
+      record {
+        counts = rw (rows_more tag) (simp length-append (omega (arith, q'.counts, r.counts)));
+        most = omega (arith, q'.most, r.most);
+        words = q'.words ∙ rw (r.words, r.counts, rows_more tag) (sym behind);
+      }
+
+  pub rowed_length : {tag n : ℕ} {after : List ℕ} → Rowed w best tag before n after → length after ≡ length before
+  rowed_length {tag} r = rw r.words (length-sets before 0 (row_words (best_rows s R best tag)))

@@ -1,6 +1,5 @@
 -- WHAT A WINDOW ANSWERS IN CODE, and the words that it leaves: those of the definition (calls, `window`), on any words and any buffer.
 use Rattle.std.specs.Prelude.{◌≡◌, Bool, true, false, List, [], ◌∷◌, ℕ, ◌*◌, ◌≤◌, length, Result, Ok, Err}
-use Rattle.layout.specs.declared.head.Head.{Head}
 use Rattle.layout.specs.Sizes.{row_len}
 use Rattle.layout.specs.declared.refusal.Refusal.{Refusal}
 use Rattle.layout.specs.declared.refusal.Refusal.TheVariants as refusal
@@ -11,6 +10,7 @@ use Rattle.calls.specs.LookBack.{row_words, written, zeros}
 use Rattle.calls.specs.Range.{crossing}
 use Rattle.calls.specs.Window.{window_rows, unknown_tag, window_own, window}
 use Rattle.queries.specs.Own.{OwnRefusal}
+use Rattle.window.specs.declared.span.Span.{Span}
 
 -- how many rows there are, or the refusal by its number
 abbrev pub answer_of : Result ℕ Refusal → Answer
@@ -31,12 +31,12 @@ abbrev pub reads_unknown : List ℕ → ℕ → ℕ → Bool
 reads_unknown ws first last = unknown_tag (head_of ws).settings.tags (crossing first last ws)
 
 -- a window to which no refusal but 12 applies
-pub data Answers (ws : List ℕ) (first last : ℕ) (rows : List ℕ) : Result ℕ Refusal → List ℕ → Type 0 where
-  answered : {n : ℕ} {rows' : List ℕ} → reads_unknown ws first last ≡ false → n ≡ length (rows_of ws first last)
-      → rows' ≡ written (row_words (rows_of ws first last)) rows → Answers ws first last rows (Ok n) rows'
-  unknown : {rows' : List ℕ} → reads_unknown ws first last ≡ true → rows' ≡ zeros rows → Answers ws first last rows (Err refusal.Unsound) rows'
+pub data Answers (w : Span) (rows : List ℕ) : Result ℕ Refusal → List ℕ → Type 0 where
+  answered : {n : ℕ} {rows' : List ℕ} → reads_unknown w.opened.store.now w.first w.last ≡ false → n ≡ length (rows_of w.opened.store.now w.first w.last)
+      → rows' ≡ written (row_words (rows_of w.opened.store.now w.first w.last)) rows → Answers w rows (Ok n) rows'
+  unknown : {rows' : List ℕ} → reads_unknown w.opened.store.now w.first w.last ≡ true → rows' ≡ zeros rows → Answers w rows (Err refusal.Unsound) rows'
 
 -- what its own tests come to before any record is read, for a buffer of this length: the first of 5, 14, 7 and 11 that applies; or the buffer is long
 -- enough
-pub record WindowRefusal (h : Head) (first last rows : ℕ) (r : Result Unit Refusal) : Type 0 where
-  pub own : OwnRefusal (λ unsound. window_own h first last rows unsound) (row_len * h.settings.tags ≤ rows) r
+pub record WindowRefusal (w : Span) (rows : ℕ) (r : Result Unit Refusal) : Type 0 where
+  pub own : OwnRefusal (λ unsound. window_own w.opened.head w.first w.last rows unsound) (row_len * w.opened.head.settings.tags ≤ rows) r

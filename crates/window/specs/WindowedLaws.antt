@@ -1,5 +1,6 @@
 -- The whole window's answers: the refusals in their order, and what the records that are read come to.
-use Rattle.std.specs.Prelude.{◌≡◌, Bool, true, false, cond, ◌||◌, ℕ, ◌≤◌, eqb, length, get_or, Result, Ok, Err}
+use Rattle.std.specs.Prelude.{◌≡◌, Bool, false, cond, ◌||◌, ℕ, ◌≤◌, eqb, length, get_or, Result, Ok, Err}
+use Rattle.std.proofs.Math.Path.{subst⁻¹}
 use Rattle.std.proofs.Common.{ap, subst, ◌∙◌, arith}
 use mathlib.Core.List.{List, [], ◌∷◌, map}
 use Rattle.base.specs.Branch.{or-false}
@@ -13,16 +14,17 @@ use Rattle.layout.specs.Head.{head_of}
 use Rattle.calls.specs.Calls.{Numbers, Refused}
 use Rattle.calls.specs.Walk.{Reader}
 use Rattle.calls.specs.Refusals.{Test, refusal}
-use Rattle.calls.specs.LookBack.{reader, row_words, written, zeros}
+use Rattle.calls.specs.LookBack.{row_words, written, zeros}
 use Rattle.calls.specs.Range.{PlacedRecord, crossing}
 use Rattle.calls.specs.Window.{latest, of_tag, shown_row, window_rows, window_own, window_tests, window}
 use Rattle.queries.specs.declared.opened.Opened.{Opened}
-use Rattle.queries.specs.Readable.{Readable}
 use Rattle.queries.specs.Opens.{Opens}
 use Rattle.queries.specs.OpenLaws.{shut_by, same_words, own_free, own_refused, own_passed}
 use Rattle.queries.specs.RowLaws.{words_length, sets_written}
+use Rattle.window.specs.declared.Unsound.{Unsound}
+use Rattle.window.specs.declared.span.Span.{Span}
 use Rattle.window.specs.Windowed.{Windowed, rows_of, reads_unknown, Answers, answered, unknown, WindowRefusal}
-use Rattle.window.specs.Noted.{Noted, Notes, AllNamed, row_at, best_rows, Rowed, LongRows}
+use Rattle.window.specs.Noted.{reader_of, Noted, NotesAll, AllNamed, row_at, best_rows, Rowed, LongRows}
 use Rattle.window.specs.LatestLaws.{tag_row}
 use Rattle.window.specs.NotedLaws.{noted_at, noted_named}
 use Rattle.window.specs.BlockLaws.{notes_noted, notes_unknown}
@@ -39,23 +41,23 @@ rows_are {s} {R} {l} {best = best} n tags h = joined_same (λ tag. row_at s R (g
     (λ tag i. rw (noted_at n tag (omega arith)) (tag_row n.met tag))
 
 -- ---- answered, or refusal 12
-module _ {ws : List ℕ} {h : Head} (ready : Readable ws h) {first last most : ℕ} {x : Bool} {best : List ℕ}
-    (found : Notes h.settings (reader ws) (crossing first last ws) most x best) (rows : List ℕ) where
-  pub rows_answered : x ≡ true → LongRows h.settings rows → {n : ℕ} {rows' : List ℕ} → Rowed h.settings (reader ws) best h.settings.tags rows n rows'
-      → Answers ws first last rows (Ok n) rows'
-  rows_answered e long {n} {rows'} rowed =
-      let d : h.settings.tags ≡ (head_of ws).settings.tags = rw ready.is in
-      let known = notes_noted found e in
-      let are : best_rows h.settings (reader ws) best h.settings.tags ≡ rows_of ws first last =
-      rows_are known h.settings.tags ready.sound.within.tags ∙ ap (window_rows (crossing first last ws)) d in
-      let count : n ≡ length (rows_of ws first last) = rw are at rowed.counts in
-      let room : length (row_words (rows_of ws first last)) ≤ length rows = omega (arith, words_length (rows_of ws first last), rowed.most, long.long) in
-      answered (rw d at known.known) count ((rw are at rowed.words) ∙ sets_written (row_words (rows_of ws first last)) rows room)
+tags_are : (w : Span) → w.opened.head.settings.tags ≡ (head_of w.opened.store.now).settings.tags
+tags_are w = rw w.opened.readable.is
 
-  pub rows_refused : x ≡ false → {rows' : List ℕ} → rows' ≡ zeros rows → Answers ws first last rows (Err refusal.Unsound) rows'
-  rows_refused e z =
-      let d : h.settings.tags ≡ (head_of ws).settings.tags = rw ready.is in
-      unknown (rw d at (notes_unknown found e)) z
+module _ (w : Span) {x : Result (Unit {0}) Unsound} {best : List ℕ} (found : NotesAll w x best) {rows : List ℕ} where
+  pub rows_answered : {u : Unit {0}} → x ≡ Ok u → LongRows w rows → {n : ℕ} {rows' : List ℕ} → Rowed w best w.opened.head.settings.tags rows n rows'
+      → Answers w rows (Ok n) rows'
+  rows_answered e long {n} {rows'} rowed =
+      let told = rows_of w.opened.store.now w.first w.last in
+      let known = notes_noted found e in
+      let are : best_rows w.opened.head.settings (reader_of w) best w.opened.head.settings.tags ≡ told =
+      rows_are known w.opened.head.settings.tags w.opened.readable.sound.within.tags ∙ ap (window_rows (crossing w.first w.last w.opened.store.now)) (tags_are w) in
+      let count : n ≡ length told = rw are at rowed.counts in
+      let room : length (row_words told) ≤ length rows = omega (arith, words_length told, rowed.most, long.long) in
+      answered (rw (tags_are w) at known.known) count ((rw are at rowed.words) ∙ sets_written (row_words told) rows room)
+
+  pub rows_refused : {u : Unsound} → x ≡ Err u → {rows' : List ℕ} → rows' ≡ zeros rows → Answers w rows (Err refusal.Unsound) rows'
+  rows_refused e z = unknown (rw (tags_are w) at (notes_unknown found e)) z
 
 -- ---- the whole call, by its first refusal
 module _ (ws : List ℕ) (first last : ℕ) (rows : List ℕ) where
@@ -73,34 +75,38 @@ module _ (ws : List ℕ) (first last : ℕ) (rows : List ℕ) where
       let i : window ws first last rows ≡ record { answer = Refused (number e); lent = rows ∷ [] } = rw (q, g.0, g.1) in
       record { answer = rw i; words = rw i }
 
-  answer_is : {r : Result ℕ Refusal} {rows' : List ℕ} → first_of ≡ cond (reads_unknown ws first last) UNSOUND 0 → Answers ws first last rows r rows'
-      → Windowed ws first last rows r rows'
-  unfolding window
-  answer_is q (answered u n w) =
-      let e : window ws first last rows
-      ≡ record { answer = Numbers (length (rows_of ws first last) ∷ []); lent = written (row_words (rows_of ws first last)) rows ∷ [] } = rw (q, u) in
-      record { answer = rw (e, n); words = rw (e, w) }
-  answer_is q (unknown u w) =
-      let e : window ws first last rows ≡ record { answer = Refused UNSOUND; lent = zeros rows ∷ [] } = rw (q, u) in
-      record { answer = rw e; words = rw (e, w) }
-
-  -- ---- the store is refused,
+  -- The store is refused,
   pub store_refused : {e : Refusal} → Opens ws (Err e) → Windowed ws first last rows (Err e) rows
   store_refused o = let z = shut_by o in turned_is (z.0 own) z.1
 
-  module _ {o : Opened} (opens : Opens ws (Ok o)) where
-    -- or one of its own tests applies,
-    pub window_refused : {e : Refusal} → WindowRefusal o.head first last (length rows) (Err e) → Windowed ws first last rows (Err e) rows
-    window_refused w =
-        let p = own_refused (λ (x : Head) (u : Bool). window_own x first last (length rows) u) opens (reads_unknown ws first last) w.own in
-        turned_is p.0 p.1
+answer_is : {w : Span} {rows : List ℕ} {r : Result ℕ Refusal} {rows' : List ℕ}
+    → refusal (window_tests w.opened.store.now w.first w.last (length rows)) ≡ cond (reads_unknown w.opened.store.now w.first w.last) UNSOUND 0
+    → Answers w rows r rows' → Windowed w.opened.store.now w.first w.last rows r rows'
+unfolding window
+answer_is {w} {rows} q (answered u n a) =
+    let told = rows_of w.opened.store.now w.first w.last in
+    let e : window w.opened.store.now w.first w.last rows ≡ record { answer = Numbers (length told ∷ []); lent = written (row_words told) rows ∷ [] } = rw (q, u) in
+    record { answer = rw (e, n); words = rw (e, a) }
+answer_is {w} {rows} q (unknown u a) =
+    let e : window w.opened.store.now w.first w.last rows ≡ record { answer = Refused UNSOUND; lent = zeros rows ∷ [] } = rw (q, u) in
+    record { answer = rw e; words = rw (e, a) }
 
-    -- or none does, and the answer is the records'.
-    pub window_answers : {r : Result ℕ Refusal} {rows' : List ℕ} → WindowRefusal o.head first last (length rows) (Ok tt)
-        → Answers o.store.now first last rows r rows' → Windowed ws first last rows r rows'
-    window_answers {r} {rows'} w a =
-        answer_is (own_passed (λ (x : Head) (u : Bool). window_own x first last (length rows) u) opens (reads_unknown ws first last) (own_free w.own))
-        (subst (λ (us : List ℕ). Answers us first last rows r rows') (same_words opens) a)
+-- or one of its own tests applies,
+module _ {ws : List ℕ} {o : Opened} (opens : Opens ws (Ok o)) (first last : ℕ) {rows : List ℕ} where
+  pub window_refused : {e : Refusal} → WindowRefusal (record { opened = o; first = first; last = last }) (length rows) (Err e) → Windowed ws first last rows (Err e) rows
+  window_refused t =
+      let p = own_refused (λ (x : Head) (u : Bool). window_own x first last (length rows) u) opens (reads_unknown ws first last) t.own in
+      turned_is ws first last rows p.0 p.1
 
-    pub rows_long : WindowRefusal o.head first last (length rows) (Ok tt) → LongRows o.head.settings rows
-    rows_long w = record { long = (own_free w.own).room }
+  -- or none does, and the answer is the records'.
+  pub window_answers : {r : Result ℕ Refusal} {rows' : List ℕ} → WindowRefusal (record { opened = o; first = first; last = last }) (length rows) (Ok tt)
+      → Answers (record { opened = o; first = first; last = last }) rows r rows' → Windowed ws first last rows r rows'
+  window_answers {r} {rows'} t a =
+      let same = same_words opens in
+      let q = own_passed (λ (x : Head) (u : Bool). window_own x first last (length rows) u) opens (reads_unknown ws first last) (own_free t.own) in
+      subst (λ (us : List ℕ). Windowed us first last rows r rows') same
+      (answer_is {w = record { opened = o; first = first; last = last }}
+      (subst⁻¹ (λ (us : List ℕ). refusal (window_tests us first last (length rows)) ≡ cond (reads_unknown us first last) UNSOUND 0) same q) a)
+
+pub rows_ready : {w : Span} {rows : List ℕ} → WindowRefusal w (length rows) (Ok tt) → LongRows w rows
+rows_ready t = record { long = (own_free t.own).room }

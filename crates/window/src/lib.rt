@@ -4,6 +4,7 @@
 
 mod latest;
 mod rows;
+mod span;
 
 ghost use Rattle.std.specs.Prelude.{◌≡◌, ◌||◌};
 ghost use Rattle.calls.specs.Refusals.{is_open};
@@ -12,54 +13,65 @@ ghost use Rattle.window.specs.Noted.{LongRows};
 
 use layout::parts;
 use layout::refusal::Refusal;
-use queries::Opened;
+use span::Span;
 
-// One of the two times is OPEN.
-fn either_open(first: u32, last: u32) -> bool
-    ensures { result ≡ (is_open first || is_open last) }
-{
-    first == layout::OPEN || last == layout::OPEN
-}
+// A record that the window reads has a tag of D or more: its store is unsound.
+#[derive(Clone, Copy)]
+pub(crate) struct Unsound;
 
-// Refusals 5, 14, 7 and 11, in order, for a store that was opened.
-fn test(found: &Opened, first: u32, last: u32, rows: usize) -> Result<(), Refusal>
-    ensures { WindowRefusal found.now.head first last rows result }
-{
-    let either = either_open(first, last);
-    if either {
-        return Err(Refusal::TimeOpen);
+impl Span<'_> {
+    // One of the two seconds is OPEN.
+    fn is_open(&self) -> bool
+        ensures { result ≡ (is_open self.now.first || is_open self.now.last) }
+    {
+        self.first == layout::OPEN || self.last == layout::OPEN
     }
-    if last < first {
-        return Err(Refusal::Reversed);
-    }
-    if found.head.cursor.clock < last {
-        return Err(Refusal::Late);
-    }
-    if rows < layout::ROW_LEN * found.head.settings.tags as usize {
-        return Err(Refusal::ShortBuffer);
-    }
-    Ok(())
-}
 
-// The latest record of each tag is noted, then the rows are put, and how many there are; a tag of D or more is refusal 12, which fills the buffer with
-// zeros.
-fn answer(found: &Opened, first: u32, last: u32, rows: &mut [u32]) -> Result<u32, Refusal>
-    requires { LongRows found.now.head.settings rows.old }
-    ensures { Answers found.now.store.now first last rows.old result rows.new }
-{
-    let mut best = [0u32; 4096];
-    if !latest::note_blocks(found.store, found.head, first, last, &mut best) {
-        parts::zero_all(rows);
-        return Err(Refusal::Unsound);
+    // Refusals 5, 14, 7 and 11, in order, for a store that was opened.
+    fn test(&self, rows: usize) -> Result<(), Refusal>
+        ensures { WindowRefusal self.now rows result }
+    {
+        if self.is_open() {
+            return Err(Refusal::TimeOpen);
+        }
+        if self.last < self.first {
+            return Err(Refusal::Reversed);
+        }
+        if self.opened.head.cursor.clock < self.last {
+            return Err(Refusal::Late);
+        }
+        if rows < layout::ROW_LEN * self.opened.head.settings.tags as usize {
+            return Err(Refusal::ShortBuffer);
+        }
+        Ok(())
     }
-    Ok(rows::put_rows(found.store, found.head.settings, &best, rows))
+
+    // The latest record of each tag is noted, then the rows are put; where a record is unsound, refusal 12 fills the buffer with zeros.
+    fn answer(&self, rows: &mut [u32]) -> Result<u32, Refusal>
+        requires { LongRows self.now rows.old }
+        ensures { Answers self.now rows.old result rows.new }
+    {
+        let mut best = [0; 4096];
+        match self.note_blocks(&mut best) {
+            Ok(()) => Ok(self.put_rows(&best, rows)),
+            Err(Unsound) => {
+                parts::zero_all(rows);
+                Err(Refusal::Unsound)
+            }
+        }
+    }
 }
 
 // What stood at some second from `first` to `last`, both included: how many rows are given. Refused for the first reason that applies, on any words.
 pub fn window(store: &[u32], first: u32, last: u32, rows: &mut [u32]) -> Result<u32, Refusal>
     ensures { Windowed store.now first last rows.old result rows.new }
 {
-    let found = queries::open(store)?;
-    test(&found, first, last, rows.len())?;
-    answer(&found, first, last, rows)
+    let opened = queries::open(store)?;
+    let span = Span {
+        opened,
+        first,
+        last,
+    };
+    span.test(rows.len())?;
+    span.answer(rows)
 }

@@ -1,46 +1,43 @@
 // The rows of the latest records, in ascending tag order.
 ghost use Rattle.std.specs.Prelude.{◌<◌};
-ghost use Rattle.calls.specs.LookBack.{reader};
-ghost use Rattle.queries.specs.Readable.{Blocks};
-ghost use Rattle.window.specs.Noted.{row_at, Named, AllNamed, LongRows, Puts, Rowed};
+ghost use Rattle.window.specs.Noted.{reader_of, row_at, Named, AllNamed, LongRows, Puts, Rowed};
 
-use layout::settings::Settings;
+use crate::span::Span;
 use layout::{fields, parts, payload, place};
 
-// The row of the record at a place, if there is one, behind the rows given.
-fn put_row(store: &[u32], s: Settings, place: u32, rows: &mut [u32], given: u32) -> u32
-    requires blocks { Blocks store.now s }
-    requires named { Named s place }
-    requires long_rows { LongRows s rows.old }
-    requires given_lt_tags { given < s.tags }
-    ensures { Puts rows.old given (row_at s (reader store.now) place) result rows.new }
-{
-    if place == 0 {
-        return given;
+impl Span<'_> {
+    // The row of the record at a place, if there is one, behind the rows given.
+    fn put_row(&self, place: u32, rows: &mut [u32], given: u32) -> u32
+        requires named { Named self.now.opened.head.settings place }
+        requires long_rows { LongRows self.now rows.old }
+        requires given_lt_tags { given < self.now.opened.head.settings.tags }
+        ensures { Puts rows.old given (row_at self.now.opened.head.settings (reader_of self.now) place) result rows.new }
+    {
+        if place == 0 {
+            return given;
+        }
+        let s = self.opened.head.settings;
+        let block = self.opened.block(place::block_of(s, place));
+        let k = place::slot_of(s, place);
+        let at = layout::ROW_LEN * given as usize;
+        let tag = parts::slot_word(block, k, fields::TAG);
+        let told = payload::in_slot(block, k);
+        rows[at] = tag;
+        rows[at + 1] = told.reading;
+        rows[at + 2] = told.since;
+        given + 1
     }
-    let block = parts::block(store, s, place::block_of(s, place));
-    let k = place::slot_of(s, place);
-    let at = layout::ROW_LEN * given as usize;
-    let tag = parts::slot_word(block, k, fields::TAG);
-    let told = payload::in_slot(block, k);
-    rows[at] = tag;
-    rows[at + 1] = told.reading;
-    rows[at + 2] = told.since;
-    given + 1
-}
 
-// The rows of all tags below D; the words after them keep their contents.
-pub(crate) fn put_rows(store: &[u32], s: Settings, best: &[u32; 4096], rows: &mut [u32]) -> u32
-    requires blocks { Blocks store.now s }
-    requires all_named { AllNamed s best.now }
-    requires long_rows { LongRows s rows.old }
-    ensures { Rowed s (reader store.now) best.now s.tags rows.old result rows.new }
-{
-    let mut given = 0;
-    let mut tag = 0;
-    while tag < s.tags {
-        given = put_row(store, s, best[tag as usize], rows, given);
-        tag += 1;
+    // The rows of all tags below D; the words after them keep their contents.
+    pub(crate) fn put_rows(&self, best: &[u32; 4096], rows: &mut [u32]) -> u32
+        requires all_named { AllNamed self.now.opened.head.settings best.now }
+        requires long_rows { LongRows self.now rows.old }
+        ensures { Rowed self.now best.now self.now.opened.head.settings.tags rows.old result rows.new }
+    {
+        let mut given = 0;
+        for &place in &best[..self.opened.head.settings.tags as usize] {
+            given = self.put_row(place, rows, given);
+        }
+        given
     }
-    given
 }
