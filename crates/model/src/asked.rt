@@ -64,15 +64,6 @@ impl Action {
         }
     }
 
-    pub fn kind(self) -> Kind {
-        match self {
-            Action::Set { .. } => Kind::Set,
-            Action::Clear { .. } => Kind::Clear,
-            Action::Update { .. } => Kind::Update,
-            Action::Advance => Kind::Advance,
-        }
-    }
-
     // A clock move has no tag.
     pub fn tag(self) -> Option<u32> {
         match self {

@@ -26,7 +26,7 @@ pub struct Book {
     pub settings: Settings,
     pub blocks: ArrayVec<Block, MOST_BLOCKS>,
     // By place, the record's tag.
-    pub tags: ArrayVec<u32, MOST_RECORDS>,
+    tags: ArrayVec<u32, MOST_RECORDS>,
     // By tag, the place of its standing record: what the directory must be.
     places: [Option<u32>; MOST_TAGS],
 }

@@ -23,6 +23,7 @@ pub struct Store {
     honest: Words,
 }
 
+// Words are copied as far as both go: `copy_from_slice` would ask that they are as long.
 fn copy(to: &mut [u32], from: &[u32]) {
     for (word, source) in to.iter_mut().zip(from) {
         *word = *source;
@@ -83,9 +84,9 @@ impl Store {
 
     // A start leaves zeros after the settings, and keeps what lies beyond the layout.
     pub fn keep_started(&mut self, settings: Settings) {
-        let end = settings.layout();
-        for word in self.kept.iter_mut().take(end).skip(AFTER_SETTINGS) {
-            *word = 0;
+        let layout = AFTER_SETTINGS..settings.layout();
+        if let Some(words) = self.kept.as_mut_slice().get_mut(layout) {
+            words.fill(0);
         }
     }
 
