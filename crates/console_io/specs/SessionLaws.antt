@@ -6,7 +6,7 @@ use Rattle.console_run.specs.declared.feed.Console.{Console}
 use Rattle.console_run.specs.declared.feed.Step.{Step}
 use Rattle.console_run.specs.declared.turn.Said.{Said}
 use Rattle.console_run.specs.Console.{Lent, said_lines, missing, blank}
-use Rattle.console_run.specs.Feed.{stepped, begun, fed, last_taken, is_over, state, finish_lines, run_lines}
+use Rattle.console_run.specs.Feed.{stepped, begun, last_taken, is_over, state, finish_lines, run_lines}
 use Rattle.console_run.specs.FeedLaws.{all_none, all_over, all_more, in_chunks, lines_none, lines_over, lines_more, prints_output}
 use Rattle.console_run.specs.SaidLaws.{lines_in_chunks}
 use Rattle.console_io.specs.declared.sink.Sink.{Sink}
@@ -15,12 +15,6 @@ use Rattle.console_io.specs.SinkLaws.{sent_on}
 use Rattle.console_io.specs.Session.{Running, Begins, FedByte, FedBytes, FedRead, ReadAll, Ran}
 
 -- ---- bytes
-
--- A step, and its lines.
-pub byte_fed : {c after : Console} {words left : Lent} {x : ℕ} {r : Step} {a b : Sink}
-    → stepped r after left ≡ fed c words x → Sent a (said_lines r.said r.number left.rows) b
-    → FedByte x (record { state = state c words; sink = a }) (record { state = state after left; sink = b })
-byte_fed e s = record { reached = rw (← e); sent = rw (← e) s }
 
 -- No byte.
 pub fed_nothing : (s : Running) → FedBytes [] s s
@@ -49,9 +43,6 @@ fed_on {s} {t} {u} {input} {more} f g = record {
 pub record FedTo (s : Running) (input : List ℕ) (i : ℕ) (t : Running) : Type 0 where
   pub within : i ≤ length input
   pub rest : (u : Running) → FedBytes (drop i input) t u → FedBytes input s u
-
-pub to_none : (s : Running) (input : List ℕ) → FedTo s input 0 s
-to_none s input = record { within = omega arith; rest = λ u f. f }
 
 module _ {s t : Running} {input : List ℕ} {i : ℕ} (f : FedTo s input i t) where
   pub to_over : is_over t.state.console.stage ≡ true → FedBytes input s t

@@ -57,9 +57,6 @@ pub record SentTo (a : Sink) (lines : List (List ℕ)) (i : ℕ) (b : Sink) : Ty
   pub within : i ≤ length lines
   pub rest : (c : Sink) → Sent b (drop i lines) c → Sent a lines c
 
-pub sent_none : (a : Sink) (lines : List (List ℕ)) → SentTo a lines 0 a
-sent_none a lines = record { within = omega arith; rest = λ c s. s }
-
 module _ {a b : Sink} {lines : List (List ℕ)} {i : ℕ} (t : SentTo a lines i b) where
   pub sent_next : {c : Sink} → i < length lines → Emitted (get_or lines i []) b c → SentTo a lines (i + 1) c
   sent_next {c} h e = record {

@@ -1,12 +1,11 @@
 -- The output lines one by one.
-use Rattle.std.specs.Prelude.{◌≡◌, refl, cond, List, [], ◌∷◌, ℕ, zero, suc, ◌+◌, ◌*◌, ◌≤◌, ◌<◌, leb, length, get_or}
+use Rattle.std.specs.Prelude.{◌≡◌, refl, cond, List, [], ◌∷◌, ℕ, zero, suc, ◌+◌, ◌≤◌, ◌<◌, leb, length, get_or}
 use Rattle.std.proofs.Common.{sym, ap, ◌∙◌, arith, length-append, le-leb}
 use Rattle.std.proofs.Math.ListN.{get_or-eq_default, get_or-append}
 use Rattle.std.proofs.lemmas.List.{get_or_at}
 use Rattle.std.proofs.lemmas.Bool.{lt-leb}
 use Rattle.base.specs.Branch.{lt?}
-use Rattle.layout.specs.Sizes.{row_len}
-use Rattle.console_text.specs.Output.{row_line, sum_line, no_line, bad_line}
+use Rattle.console_text.specs.Output.{sum_line, no_line, bad_line}
 use Rattle.console_run.specs.declared.turn.Said.{Said}
 use Rattle.console_run.specs.declared.turn.Said.TheVariants.{Nothing, Bad, No, Slice}
 use Rattle.console_run.specs.Console.{row_line_at, row_lines, said_lines}
@@ -68,17 +67,6 @@ slice_at time count blocks number rows i h = lt? i count
     first : (i : ℕ) → 0 + i ≡ i
     first i = omega arith
 
--- The look-back's i-th line is the sum or a row.
-module _ (time count blocks : ℕ) (rows : List ℕ) (i : ℕ) where
-  pub sum_is : count ≤ i → slice_line time count blocks rows i ≡ sum_line time count blocks
-  unfolding slice_line
-  sum_is h = rw (le-leb count i h)
-
-  pub row_is : {tag reading : ℕ} → i < count → tag ≡ get_or rows (row_len * i) 0 → reading ≡ get_or rows (row_len * i + 1) 0
-      → slice_line time count blocks rows i ≡ row_line time tag reading
-  unfolding slice_line
-  row_is h e f = rw (lt-leb count i h, e, f)
-
 -- What is said, where it is known, has this i-th line.
 module _ (said : Said) (number : ℕ) (rows : List ℕ) (i : ℕ) {n : ℕ} (e : n ≡ line_count said) where
   pub past_is : n ≤ i → get_or (said_lines said number rows) i [] ≡ []
@@ -99,7 +87,3 @@ module _ (said : Said) (number : ℕ) (rows : List ℕ) (i : ℕ) {n : ℕ} (e :
   slice_is {time} {count} {blocks} s h =
       let k : n ≡ count + 1 = e ∙ ap line_count s in
       rw s (slice_at time count blocks number rows i (omega arith))
-
-pub none_is : (said : Said) (number : ℕ) (rows : List ℕ) (i : ℕ) → said ≡ Nothing → get_or (said_lines said number rows) i [] ≡ []
-unfolding said_lines
-none_is said number rows i e = rw e

@@ -1,7 +1,7 @@
 -- Fields taken off a line one after another; and parts with bytes in front of the first.
 use Rattle.std.specs.Prelude.{◌≡◌, refl, Bool, true, false, List, [], ◌∷◌, ◌++◌, ℕ, ◌≤◌, eqb, length, Option, Some, None}
 use Rattle.std.specs.Iterator.{AlwaysYields}
-use Rattle.std.specs.List.{slice_split}
+use Rattle.std.specs.List as list
 use Rattle.std.proofs.Common.{◌∙◌, append_assoc, append-nil, arith}
 use Rattle.std.proofs.lemmas.List.Splits.{slice_split-cons_yes, slice_split-cons_no, length-slice_split}
 use Rattle.std.proofs.lemmas.Iterator.Splits.{YieldsList-from_slice_split}
@@ -44,7 +44,7 @@ pub split_on : (s x : ℕ) (l : List ℕ) → eqb x s ≡ false → split s (x �
 unfolding onto_first
 split_on s x l e = slice_split-cons_no (λ y. eqb y s) x l e ∙ same (split s l)
   where
-    same : (parts : List (List ℕ)) → Rattle.std.specs.List.onto_first x parts ≡ onto_first (x ∷ []) parts
+    same : (parts : List (List ℕ)) → list.onto_first x parts ≡ onto_first (x ∷ []) parts
     same [] = refl
     same (part ∷ parts) = refl
 
@@ -76,8 +76,11 @@ module _ {S A : Type 0} (steps : S → Option A → S → Type 0) (v : A → Lis
         go (y ∷ rest) e l = absurd (l.0 t k)
 
 -- The first field, where the iterator cuts at commas.
-pub first_taken : {F : Type 0} {g : Mut F (Bor ℕ × Unit {0}) Bool} {f : F} {t : Split ℕ F} (line : List ℕ) (s : Split ℕ F) (x : Bor (List ℕ)) → split_steps g s (Some x) t
-    → split_rest s ≡ line → split_done s ≡ false → split_callee s ≡ f → ((y : ℕ) (b : Bool) (q : F) → CalledAt g f y b q → (q ≡ f) × (b ≡ eqb y 44))
-    → Took (split_steps g) (λ y. y.now) (fields_of line) (x.now ∷ []) t
-first_taken {g = g} line s x k rest done closure tests =
-    took_next (split_steps g) (λ y. y.now) (took_none (split_steps g) (λ y. y.now) (YieldsList-from_slice_split {s = s} g (λ y. eqb y 44) line rest done closure tests).runs) x k
+module _ {F : Type 0} {g : Mut F (Bor ℕ × Unit {0}) Bool} {f : F} {t : Split ℕ F} (line : List ℕ) (s : Split ℕ F) (x : Bor (List ℕ)) where
+  pub first_taken : split_steps g s (Some x) t → split_rest s ≡ line → split_done s ≡ false → split_callee s ≡ f
+      → ((y : ℕ) (b : Bool) (q : F) → CalledAt g f y b q → (q ≡ f) × (b ≡ eqb y 44))
+      → Took (split_steps g) (λ y. y.now) (fields_of line) (x.now ∷ []) t
+  first_taken k rest done closure tests =
+      let start = took_none (split_steps g) (λ (y : Bor (List ℕ)). y.now)
+      (YieldsList-from_slice_split {s = s} g (λ y. eqb y 44) line rest done closure tests).runs in
+      took_next (split_steps g) (λ y. y.now) start x k

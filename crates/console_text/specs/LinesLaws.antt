@@ -1,5 +1,5 @@
 -- Feeding every byte of an input gives its lines.
-use Rattle.std.specs.Prelude.{◌≡◌, refl, true, false, cond, List, [], ◌∷◌, ◌++◌, ℕ, ◌+◌, ◌≤◌, ◌<◌, eqb, length}
+use Rattle.std.specs.Prelude.{◌≡◌, refl, cond, not, List, [], ◌∷◌, ◌++◌, ℕ, ◌+◌, ◌≤◌, ◌<◌, eqb, length}
 use Rattle.std.proofs.Common.{sym, ap, ◌∙◌, append-nil, arith, length-append, eq-eqb, ne_eqb, le-leb}
 use Rattle.std.proofs.lemmas.Bool.{lt-leb}
 use Rattle.base.specs.Branch.{by_test, is?, lt?}
@@ -34,7 +34,8 @@ left_text : (p : List ℕ) → cond (left_over (text_of p)) (text_of p ∷ []) [
 unfolding ended
 left_text p = lt? line_most (length p)
     (λ a. rw (text_long p a, ne_eqb (length p) 0 (λ e. omega arith)))
-    (λ a. rw (text_short p a) (by_test (eqb (length p) 0) (λ t. cond (Rattle.std.specs.Prelude.not t) (whole p ∷ []) [] ≡ cond t [] (whole p ∷ [])) (λ e. refl) (λ e. refl)))
+    (λ a. rw (text_short p a)
+    (by_test (eqb (length p) 0) (λ t. cond (not t) (whole p ∷ []) [] ≡ cond t [] (whole p ∷ [])) (λ e. refl) (λ e. refl)))
 
 -- ---- the whole input
 

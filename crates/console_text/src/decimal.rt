@@ -65,7 +65,7 @@ pub(crate) fn reading(field: &[u8]) -> Option<u32>
     }
 }
 
-// A number's decimal.
+// A number's decimal. (The library `io` hands its digits over as a buffer and a count.)
 pub(crate) fn put_number(line: &mut OutputLine, n: u64)
     requires { array_vec_len line.old + 20 ≤ line_room }
     ensures number { line.new.items ≡ line.old.items ++ decimal n }

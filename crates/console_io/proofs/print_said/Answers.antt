@@ -1,10 +1,7 @@
 -- `print_said` meets its contract: the lines are handed on in order.
 use Rattle.std.proofs.Common.{◌∙◌}
-use Rattle.console_io.specs.SinkLaws.{emit_as, sent_none, said_next, said_whole}
+use Rattle.console_io.specs.SinkLaws.{emit_as, said_next, said_whole}
 use Rattle.console_io.proofs.print_said.Goals as goal
-
-pub loop-i-init : goal.loop-i-init
-loop-i-init c = sent_none _ _
 
 pub loop-i-preserved : goal.loop-i-preserved
 loop-i-preserved c =

@@ -1,10 +1,7 @@
 -- A session's `feed_all` meets its contract: the bytes are fed in order, until the run is over.
 use Rattle.std.proofs.Common.{sym}
-use Rattle.console_io.specs.SessionLaws.{to_none, to_over, to_whole, to_next}
+use Rattle.console_io.specs.SessionLaws.{to_over, to_whole, to_next}
 use Rattle.console_io.proofs.Session.feed_all.Goals as goal
-
-pub loop-byte-init : goal.loop-byte-init
-loop-byte-init c = to_none _ _
 
 pub returns-then-is_over : goal.returns-then-is_over
 returns-then-is_over c = to_over c.loop-byte.invariant (sym c.if-is_over.ensures)

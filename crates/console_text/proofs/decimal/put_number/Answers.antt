@@ -1,17 +1,13 @@
 -- `decimal::put_number` meets its contract: what the library spells is the decimal, of at most 20 digits, and 10 for a word.
 use Rattle.std.proofs.Common.{◌∙◌, ap, ◌++◌, List, ℕ, length, arith, length-append}
-use Rattle.console_text.specs.DigitsLaws.{digits_are, digits_most, decimal_word}
+use Rattle.console_text.specs.DigitsLaws.{digits_are, decimal_word}
 use borrow.Author.Rules.{rules}
 use Rattle.console_text.proofs.decimal.put_number.Goals as goal
 
-pub put_text-requires : goal.put_text-requires
-put_text-requires c =
-    let most = digits_most (search rules) c.decimal-count.ensures.len in
-    omega arith
-
 pub returns-clause-number : goal.returns-clause-number
 returns-clause-number c =
-    c.put_text.ensures ∙ ap (λ (l : List ℕ). c.args.line.now.items ++ l) (digits_are (search rules) c.decimal-count.ensures.len c.decimal-count.ensures.digits)
+    let digits = digits_are (search rules) c.decimal-count.ensures.len c.decimal-count.ensures.digits in
+    c.put_text.ensures ∙ ap (λ (l : List ℕ). c.args.line.now.items ++ l) digits
 
 pub returns-clause-word : goal.returns-clause-word
 returns-clause-word c w =
