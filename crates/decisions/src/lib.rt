@@ -19,6 +19,7 @@ use queries::Opened;
 pub use start::decide_start;
 
 // Refusals 2 to 6, the first of every change and clock move: else the store is opened, and this second may come.
+#[inline]
 fn open_at(store: &[u32], second: u32) -> Result<Opened<'_>, Refusal>
     ensures { OpensAt store.now second result }
 {

@@ -171,7 +171,7 @@ fn spare_zero(store: &[u32]) -> bool
     requires { head_len ≤ length store.now }
     ensures { result ≡ spare_zero store.now }
 {
-    store[fields::HEAD_SPARE..sizes::HEAD_LEN] == [0; 6]
+    matches!(&store[fields::HEAD_SPARE..sizes::HEAD_LEN], [0, 0, 0, 0, 0, 0])
 }
 
 // Refusal 3: words that no start and no change left.

@@ -10,6 +10,7 @@ use layout::refusal::Refusal;
 pub use opened::Opened;
 
 // Refusals 2, 3 and 4: else the store as it was opened, with its head.
+#[inline]
 pub fn open(store: &[u32]) -> Result<Opened<'_>, Refusal>
     ensures { Opens store.now result }
 {
