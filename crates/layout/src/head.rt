@@ -171,7 +171,10 @@ fn spare_zero(store: &[u32]) -> bool
     requires { head_len ≤ length store.now }
     ensures { result ≡ spare_zero store.now }
 {
-    matches!(&store[fields::HEAD_SPARE..sizes::HEAD_LEN], [0, 0, 0, 0, 0, 0])
+    matches!(
+        &store[fields::HEAD_SPARE..sizes::HEAD_LEN],
+        [0, 0, 0, 0, 0, 0]
+    )
 }
 
 // Refusal 3: words that no start and no change left.
