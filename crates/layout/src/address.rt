@@ -1,4 +1,7 @@
 // The words of a store by what they are, and never by where they lie.
+//
+// Store and settings stay two arguments, and that the one holds the other (`Held`) a clause: what changes a store borrows it mutably, and a struct that
+// held that borrow could come back with another slice, so each contract would say besides that it is the same. (For reads: `queries::Opened`.)
 ghost use Rattle.std.specs.Prelude.{◌≡◌};
 ghost use Rattle.layout.specs.Address.{Numbered, Valid};
 ghost use Rattle.layout.specs.Program.{get!, set!, wipe! };

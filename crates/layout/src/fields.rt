@@ -1,3 +1,5 @@
+// Numbers and no enums, since each is where its word lies behind the first: an enum would be made a number again at each use.
+//
 // The words of the head, of a block's head and of a record, by name: the second part of an Address (specs/Fields.antt says the same).
 
 // `Address::Head`: a word of the head lies at its own number

@@ -6,6 +6,8 @@ ghost use Rattle.layout.specs.Spot.{Spot};
 
 use crate::settings::Settings;
 
+// (Block and slot stay two numbers: an address, a program and a law name the one or the other, and a struct of both would be taken apart at each.)
+
 // The place of slot k of block n.
 pub fn place_of(s: Settings, n: u32, k: u32) -> u32
     requires { Spot s n k }

@@ -6,6 +6,7 @@ ghost use Rattle.layout.specs.SettingsLaws.{BlockLong, StoreLong};
 use crate::refusal::Refusal;
 use crate::sizes;
 
+// That settings are within their limits stays a clause (`Within`): a head that is read may have others, and the definitions speak of any words.
 #[derive(Clone, Copy, Debug, PartialEq, Eq)]
 pub struct Settings {
     // b: records in a block

@@ -31,7 +31,7 @@ fn weight(k: u32) -> u32
     1u32 << k
 }
 
-// A word of standing bits with bit k made 1.
+// A word of standing bits with bit k made 1. (Beside `bit_off` and no case of one function: that would test which of the two at each bit.)
 pub fn bit_on(x: u32, k: u32) -> u32
     requires { k < 32 }
     ensures { result ≡ with_bit k x }

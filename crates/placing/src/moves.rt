@@ -1,3 +1,5 @@
+// (Each function asks that its own program meets addresses of the layout only, `Able`: another fact for each, so none for a type to keep.)
+//
 // Blocks are judged: one with fewer than q standing closes, and its standing records are placed again. Room for a record is made so, too.
 #![tactic(auto, using(crate::proofs::Following::follows), unfolding(calls::specs::Placing::roll, calls::specs::Placing::make_room, calls::specs::Placing::place, calls::specs::Placing::replace))]
 

@@ -6,6 +6,7 @@ ghost use Rattle.register.specs.Rebuilt.{Rebuilt};
 
 const ENTRY: usize = 6;
 
+// The kinds, as numbers: they are words that a caller in C writes, and `play` matches on them once.
 // b, q, B, D
 const START: u32 = 1;
 

@@ -6,7 +6,8 @@ use crate::span::Span;
 use layout::{fields, parts, payload, place};
 
 impl Span<'_> {
-    // The row of the record at a place, if there is one, behind the rows given.
+    // The row of the record at a place, if there is one, behind the rows given. (Its three words are written here and in timeslice's `take_row`: each
+    // stands in a loop that keeps them in registers.)
     fn put_row(&self, place: u32, rows: &mut [u32], given: u32) -> u32
         requires named { Named self.now.opened.head.settings place }
         requires long_rows { LongRows self.now rows.old }
