@@ -1,35 +1,27 @@
 -- What a program that may run on the words tells of the blocks, slots and tags that it meets.
-use mathlib.Core.Path.{◌≡◌, refl, sym, ap, ◌∙◌, subst}
+use mathlib.Core.Path.{◌≡◌, refl, sym, ap, ◌∙◌}
 use mathlib.Core.Logic.{◌≢◌}
 use mathlib.Core.Bool.{Bool, true}
 use mathlib.Core.List.{List}
-use Prim.Native.Nat.{ℕ, ◌+◌, ◌/◌, ◌≤◌, ◌<◌}
-use native.Mathlib.Omega.{arith}
+use Prim.Native.Nat.{ℕ, ◌+◌, ◌<◌}
 use lib.Dec.{ltb}
 use lib.ListN.{length}
-use borrow.Author.Tests.{ne_eqb, ltb-true}
+use borrow.Author.Tests.{ne_eqb}
 use Rattle.layout.specs.declared.settings.Settings.{Settings}
 use Rattle.layout.specs.declared.head.Cursor.{Cursor}
-use Rattle.layout.specs.declared.head.Head.{Head}
-use Rattle.layout.specs.declared.address.Address.{Address}
 use Rattle.layout.specs.declared.address.Address.TheVariants.{Dir, Field, Bits, Slot}
 use Rattle.layout.specs.declared.standing.Standing.{Standing}
 use Rattle.layout.specs.declared.payload.Payload.{Payload}
-use Rattle.layout.specs.Sizes.{record_len, bits_start}
 use Rattle.layout.specs.Fields.{up_word, right_word, child_word, closed_word, tag_word, to_word}
-use Rattle.layout.specs.Address.{Valid, Numbered}
-use Rattle.layout.specs.Settings.{Within}
+use Rattle.layout.specs.Address.{Numbered}
 use Rattle.layout.specs.Spot.{Spot}
 use Rattle.layout.specs.Standing.{slots, block_bits}
-use Rattle.layout.specs.Payload.{get_payload}
-use Rattle.layout.specs.Program.{Prog, bind, when, get!, set!, run}
+use Rattle.layout.specs.Program.{Prog, bind, when, get!, run}
 use Rattle.layout.specs.ProgramLaws.{refine}
 use Rattle.layout.specs.Ran.{Ran}
-use Rattle.layout.specs.Moved.{Moved, after, if_taken}
-use Rattle.layout.specs.OnWords.{over, Held}
-use Rattle.layout.specs.Able.{Able, able_held, able_first, able_next, able_taken, able_passed, able_get, able_set, able_wipe, able_payload}
+use Rattle.layout.specs.OnWords.{over}
+use Rattle.layout.specs.Able.{Able, able_first, able_next, able_taken, able_passed, able_get, able_set, able_wipe}
 use Rattle.calls.specs.Placing.{open_block, unlink, end_record, standing, put_record}
-use Rattle.placing.specs.Steps.{Listed}
 
 -- ---- a program that may run does run, and what comes after it may run
 ran_able : {A : Type 0} {s : Settings} {p : Prog A} {ws : List ℕ} → Able s p ws → Ran (over s) p ws (run (over s) p ws).0 (run (over s) p ws).1
@@ -99,7 +91,3 @@ unlink_links c x now {up} {right} a u r =
       above = λ h. (able_get (Field up child_word) (able_first (able_passed (ne_eqb up 0 h) (able_rest d)))).0;
       beside = (able_set (Field right up_word) (able_first d)).0;
     }
-
--- ---- a place that is read from the directory of a listed tag is not 0
-pub listed_place : {s : Settings} {ws us : List ℕ} {tag r : ℕ} → Listed s ws tag → Ran (over s) (get! (Dir tag)) ws r us → 1 ≤ r
-listed_place l r = subst (λ (x : ℕ). 1 ≤ x) r.value l.some

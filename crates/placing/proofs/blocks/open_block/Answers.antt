@@ -1,16 +1,10 @@
 -- `blocks::open_block`: block N + 1 is one of the store's, and so are all before it.
 use Rattle.std.proofs.Common.{arith, rules}
-use Rattle.layout.specs.Able.{able_first}
-use Rattle.calls.specs.Placing.{open_block}
 use Rattle.placing.proofs.AbleLaws.{next_block}
 use Rattle.placing.proofs.blocks.open_block.Goals as goal
 
 pub overflow_add-next : goal.overflow_add-next
 overflow_add-next c = let n = next_block _ _ c.requires in omega arith
-
-pub enter_time-requires : goal.enter_time-requires
-unfolding open_block
-enter_time-requires c = able_first c.requires
 
 pub wipe-requires-clause-numbered : goal.wipe-requires-clause-numbered
 wipe-requires-clause-numbered c = next_block _ _ c.requires

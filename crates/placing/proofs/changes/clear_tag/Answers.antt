@@ -3,22 +3,11 @@ use Rattle.std.proofs.Common.{◌∙◌, ne_eqb}
 use Rattle.layout.specs.Able.{able_first, able_next, able_passed, able_get}
 use Rattle.calls.specs.Placing.{clear_tag}
 use Rattle.placing.proofs.JudgeLaws.{judge_anew}
-use Rattle.placing.proofs.AbleLaws.{listed_place}
 use Rattle.placing.proofs.changes.clear_tag.Goals as goal
 
 pub read-place-requires-clause-valid : goal.read-place-requires-clause-valid
 unfolding clear_tag
 read-place-requires-clause-valid c = able_get _ (able_first c.requires.able)
-
-pub block_of-n-requires-clause-le_place : goal.block_of-n-requires-clause-le_place
-block_of-n-requires-clause-le_place c = listed_place c.requires.listed c.read-place.ensures
-
-pub slot_of-k-requires-clause-le_place : goal.slot_of-k-requires-clause-le_place
-slot_of-k-requires-clause-le_place c = listed_place c.requires.listed c.read-place.ensures
-
-pub end_record-requires : goal.end_record-requires
-unfolding clear_tag
-end_record-requires c = rw (c.block_of-n.ensures, c.slot_of-k.ensures) (able_first (able_next c.requires.able c.read-place.ensures))
 
 pub write-requires-clause-valid : goal.write-requires-clause-valid
 unfolding clear_tag

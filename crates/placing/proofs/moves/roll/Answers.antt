@@ -1,14 +1,9 @@
 -- `moves::roll` meets its contract: a block opens, and the one before it, if any, is judged.
-use borrow.Author.Tests.{eq-eqb, ne_eqb}
-use Rattle.layout.specs.Able.{able_first, able_next, able_passed}
-use Rattle.layout.specs.Moved.{stays, after, onto, if_taken, if_passed}
+use borrow.Author.Tests.{ne_eqb}
+use Rattle.layout.specs.Able.{able_next, able_passed}
 use Rattle.calls.specs.Placing.{roll}
 use Rattle.placing.proofs.JudgeLaws.{judge_straight}
 use Rattle.placing.proofs.moves.roll.Goals as goal
-
-pub open_block-opened-requires : goal.open_block-opened-requires
-unfolding roll
-open_block-opened-requires c = able_first c.requires
 
 pub judge-requires : goal.judge-requires
 unfolding roll

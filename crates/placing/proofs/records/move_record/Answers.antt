@@ -12,10 +12,6 @@ pub read-payload-requires-clause-spot : goal.read-payload-requires-clause-spot
 unfolding move_record
 read-payload-requires-clause-spot c = able_payload (able_next c.requires c.read-tag.ensures)
 
-pub end_record-requires : goal.end_record-requires
-unfolding move_record
-end_record-requires c = able_first (able_next (able_next c.requires c.read-tag.ensures) c.read-payload.ensures)
-
 pub put_record-requires : goal.put_record-requires
 unfolding move_record
 put_record-requires c =

@@ -1,7 +1,5 @@
 -- `records::put_record`: the acceptor's next slot is one of the store's, and any slot up to it may be written.
 use Rattle.std.proofs.Common.{arith, rules}
-use Rattle.layout.specs.Able.{able_first, able_set}
-use Rattle.calls.specs.Placing.{put_record}
 use Rattle.placing.proofs.AbleLaws.{put_spot, put_tag}
 use Rattle.placing.proofs.records.put_record.Goals as goal
 
