@@ -1,7 +1,7 @@
 -- A RUN OVER READERS, in relations: a session before and after some bytes that were fed, after a read, after every read, and a whole run.
 -- What the operating system read or wrote no contract can say: the input is the bytes that the reads left in their buffer, the output the lines
 -- that were handed to `emit`.
-use Rattle.std.specs.Prelude.{◌≡◌, List, ℕ, ◌+◌, ◌<◌, min, length, take}
+use Rattle.std.specs.Prelude.{◌≡◌, Bool, not, eqb, List, ℕ, ◌+◌, ◌<◌, min, length, take}
 use Rattle.console_text.specs.Output.{output_names}
 use Rattle.console_run.specs.Console.{lent, blank, joined, console_output}
 use Rattle.console_run.specs.Feed.{begun, count_most, ConsoleState, state, after_byte, fed, fed_all, step_lines, fed_lines}
@@ -32,9 +32,10 @@ pub record FedBytes (input : List ℕ) (before after : Running) : Type 0 where
   pub reached : after.state ≡ fed_all before.state input
   pub sent : Sent before.sink (fed_lines before.state input) after.sink
 
--- A read answered `got`: the bytes that it left at the start of the chunk were fed, all of them.
-pub record FedRead (got : ℕ) (chunk : List ℕ) (before after : Running) : Type 0 where
+-- A read answered `got`: the bytes that it left at the start of the chunk were fed, all of them; the input goes on if it left any.
+pub record FedRead (got : ℕ) (chunk : List ℕ) (before : Running) (more : Bool) (after : Running) : Type 0 where
   pub fed : FedBytes (take (min got (length chunk)) chunk) before after
+  pub goes_on : more ≡ not (eqb (min got (length chunk)) 0)
 
 -- All reads: there are bytes that were fed, in order. (That they are the chunks of the reads, one after another, is read off `read_all`.)
 pub record ReadAll (before after : Running) : Type 0 where

@@ -1,5 +1,5 @@
 -- A session step by step: a byte, bytes by a count, a chunk, chunk after chunk, and the whole run. Rests on the lines' laws of console_run.
-use Rattle.std.specs.Prelude.{◌≡◌, true, false, List, [], ◌∷◌, ◌++◌, ℕ, ◌+◌, ◌≤◌, ◌<◌, length, get_or, drop}
+use Rattle.std.specs.Prelude.{◌≡◌, Bool, true, false, List, [], ◌∷◌, ◌++◌, ℕ, ◌+◌, ◌≤◌, ◌<◌, length, get_or, drop}
 use Rattle.std.proofs.Common.{sym, ◌∙◌, arith, add-one, drop_of_length-le, drop-cons}
 use Rattle.console_text.specs.Output.{output_names}
 use Rattle.console_run.specs.declared.feed.Console.{Console}
@@ -63,7 +63,7 @@ module _ {s t : Running} {input : List ℕ} {i : ℕ} (f : FedTo s input i t) wh
 pub read_none : (s : Running) → ReadAll s s
 read_none s = record { input = []; fed = fed_nothing s }
 
-pub read_more : {s t u : Running} {got : ℕ} {chunk : List ℕ} → ReadAll s t → FedRead got chunk t u → ReadAll s u
+pub read_more : {s t u : Running} {got : ℕ} {chunk : List ℕ} {more : Bool} → ReadAll s t → FedRead got chunk t more u → ReadAll s u
 read_more {chunk} r f = record { input = r.input ++ _; fed = fed_on r.fed f.fed }
 
 -- ---- the whole run

@@ -96,12 +96,13 @@ impl Session {
         }
     }
 
-    // What a read that answered `got` left at the start of the chunk.
-    fn feed_read(&mut self, got: usize, chunk: &[u8])
-        ensures { FedRead got chunk.now (running self.old) (running self.new) }
+    // What a read that answered `got` left at the start of the chunk, and whether it left any: only a read of no byte is the end of the input.
+    fn feed_read(&mut self, got: usize, chunk: &[u8]) -> bool
+        ensures { FedRead got chunk.now (running self.old) result (running self.new) }
     {
         let n = got.min(chunk.len());
         self.feed_all(&chunk[..n]);
+        n != 0
     }
 
     // The whole input. A read that fails ends it, as the input's end does. Nothing says that an input ends, so the reads are counted up to a
@@ -115,10 +116,9 @@ impl Session {
                 return;
             }
             let got = input.read(&mut chunk).unwrap_or(0);
-            if got == 0 {
+            if !self.feed_read(got, &chunk) {
                 return;
             }
-            self.feed_read(got, &chunk);
         }
     }
 

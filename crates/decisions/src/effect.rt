@@ -1,4 +1,7 @@
 // What a change will do, by the words that it finds: which blocks close, how many records come in, whether a block opens.
+//
+// (That a block's number is one of the layout's, `Numbered`, stays a clause here and in `sound`: it says how a number stands to the settings of `found`,
+// and a type that held both for it would be made at each call and taken apart in the next line.)
 ghost use Rattle.std.specs.Prelude.{◌≡◌, ◌+◌, ◌-◌, ◌≤◌, eqb};
 ghost use Rattle.layout.specs.Address.{Numbered};
 ghost use Rattle.calls.specs.Refusals.{opens, taken_up, remaining, closes, copies};

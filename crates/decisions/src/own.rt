@@ -79,6 +79,7 @@ pub(crate) fn test_clear(found: &Opened, tag: u32, renews: bool) -> Result<(), R
         return Err(Refusal::Tag);
     }
     let p = found.read(Address::Dir(tag));
+    // A word of the store: 0 where nothing stands, as document 01 lays the directory out.
     if p == 0 {
         return Err(Refusal::NotStanding);
     }

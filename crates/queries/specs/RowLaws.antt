@@ -3,8 +3,16 @@ use Rattle.std.specs.Prelude.{◌≡◌, refl, List, [], ◌∷◌, ◌++◌, �
 use Rattle.std.proofs.Common.{ap, ◌∙◌, arith}
 use Rattle.std.proofs.lemmas.List.Edits.{sets, sets-eq}
 use Rattle.layout.specs.Sizes.{row_len}
+use Rattle.layout.specs.Fields.{tag_word}
+use Rattle.layout.specs.Parts.{slot_word}
+use Rattle.layout.specs.Payload.{payload_in}
 use Rattle.calls.specs.Calls.{Row}
 use Rattle.calls.specs.LookBack.{row_words, written}
+
+-- ---- the row of the record in slot k of a block, behind the rows given
+pub record PutsRow (block : List ℕ) (k : ℕ) (rows : List ℕ) (given : ℕ) (rows' : List ℕ) : Type 0 where
+  pub words : rows' ≡ set (set (set rows (row_len * given) (slot_word block k tag_word)) (row_len * given + 1) (payload_in block k).reading)
+      (row_len * given + 2) (payload_in block k).since
 
 -- ---- words set one after another
 pub sets_append : (ws : List ℕ) (i : ℕ) (xs ys : List ℕ) → sets ws i (xs ++ ys) ≡ sets (sets ws i xs) (i + length xs) ys

@@ -2,6 +2,7 @@
 #![tactic(auto)]
 
 mod opened;
+pub mod rows;
 
 ghost use Rattle.queries.specs.Opens.{Opens};
 

@@ -1,4 +1,5 @@
 // The row taker: it is handed a block, a part of the store, and writes the rows that stand at a second behind those already given.
+// (Buffer and number of rows stay two values: the C interface lends the one as words and is answered the other.)
 ghost use Rattle.std.specs.Prelude.{◌≡◌, ◌+◌, ◌*◌, ◌<◌, length};
 ghost use Rattle.layout.specs.Sizes.{block_head, record_len};
 ghost use Rattle.calls.specs.Walk.{row_of, rows_of};
@@ -6,7 +7,8 @@ ghost use Rattle.timeslice.specs.Taken.{Takes, RowBuffer};
 
 use crate::Unsound;
 use crate::past::Past;
-use layout::{fields, parts, payload};
+use layout::{fields, parts};
+use queries::rows;
 
 impl Past<'_> {
     // The row of slot k, if its record stands then: the rows given with it, and more of them than tags are unsound.
@@ -26,12 +28,7 @@ impl Past<'_> {
         if self.opened.head.settings.tags <= given {
             return Err(Unsound);
         }
-        let at = layout::ROW_LEN * given as usize;
-        let tag = parts::slot_word(block, k, fields::TAG);
-        let told = payload::in_slot(block, k);
-        rows[at] = tag;
-        rows[at + 1] = told.reading;
-        rows[at + 2] = told.since;
+        rows::put_row(block, k, rows, given);
         Ok(given + 1)
     }
 

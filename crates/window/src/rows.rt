@@ -1,13 +1,14 @@
 // The rows of the latest records, in ascending tag order.
+// (Buffer and number of rows stay two values: the C interface lends the one as words and is answered the other.)
 ghost use Rattle.std.specs.Prelude.{◌<◌};
 ghost use Rattle.window.specs.Noted.{reader_of, row_at, Named, AllNamed, LongRows, Puts, Rowed};
 
 use crate::span::Span;
-use layout::{fields, parts, payload, place};
+use layout::place;
+use queries::rows;
 
 impl Span<'_> {
-    // The row of the record at a place, if there is one, behind the rows given. (Its three words are written here and in timeslice's `take_row`: each
-    // stands in a loop that keeps them in registers.)
+    // The row of the record at a place, if there is one, behind the rows given.
     fn put_row(&self, place: u32, rows: &mut [u32], given: u32) -> u32
         requires named { Named self.now.opened.head.settings place }
         requires long_rows { LongRows self.now rows.old }
@@ -20,12 +21,7 @@ impl Span<'_> {
         let s = self.opened.head.settings;
         let block = self.opened.block(place::block_of(s, place));
         let k = place::slot_of(s, place);
-        let at = layout::ROW_LEN * given as usize;
-        let tag = parts::slot_word(block, k, fields::TAG);
-        let told = payload::in_slot(block, k);
-        rows[at] = tag;
-        rows[at + 1] = told.reading;
-        rows[at + 2] = told.since;
+        rows::put_row(block, k, rows, given);
         given + 1
     }
 

@@ -7,3 +7,6 @@ loop-init g c = read_none _
 
 pub loop-preserved : goal.loop-preserved
 loop-preserved g c = read_more c.loop.invariant c.feed_read.ensures
+
+pub returns-then-not-feed_read : goal.returns-then-not-feed_read
+returns-then-not-feed_read g c = read_more c.loop.invariant c.feed_read.ensures

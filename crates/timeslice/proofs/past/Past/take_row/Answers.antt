@@ -1,4 +1,5 @@
 -- `take_row` meets its contract: each answer is a law of one slot.
+use mathlib.Core.Path.{refl}
 use Rattle.timeslice.specs.TakenLaws.{not_yet, ended, no_room, one_row}
 use Rattle.timeslice.proofs.past.Past.take_row.Goals as goal
 
@@ -15,5 +16,5 @@ returns-then-self-given c =
 
 pub returns : goal.returns
 returns c =
-    one_row _ _ _ _ _ _ c.slot_word-2.ensures c.if-self-slot_word.false c.slot_word.ensures
-    c.if-slot_word-self.false c.if-self-given.false c.slot_word-tag.ensures c.in_slot-told.ensures
+    rw c.put_row.ensures.words (one_row _ _ _ _ _ _ c.slot_word-2.ensures c.if-self-slot_word.false c.slot_word.ensures
+    c.if-slot_word-self.false c.if-self-given.false refl refl)

@@ -1,4 +1,5 @@
 -- `put_row` meets its contract: no row of place 0, else the three words of its record.
+use mathlib.Core.Path.{refl}
 use Rattle.window.specs.RowedLaws.{no_row, one_row}
 use Rattle.window.proofs.span.Span.put_row.Goals as goal
 
@@ -7,5 +8,5 @@ returns-then-place-eq0 c = no_row _ _ _ _ _ c.if-place-eq0.true
 
 pub returns : goal.returns
 returns c =
-    one_row _ _ _ _ _ c.if-place-eq0.false c.block_of.ensures c.block-block.ensures.read
-    c.slot_of-k.ensures c.slot_word-tag.ensures c.in_slot-told.ensures
+    rw c.put_row.ensures.words (one_row _ _ _ _ _ c.if-place-eq0.false c.block_of.ensures c.block-block.ensures.read
+    c.slot_of-k.ensures refl refl)
