@@ -14,7 +14,8 @@ use layout::parts;
 use layout::refusal::Refusal;
 use past::Past;
 
-// A word of the store that the walk reads is unsound: a link, or more rows than tags. (Which one is not told.)
+// A word of the store that the walk reads is unsound: a link, or more rows than tags. (Which one is not told.
+// `window` has an error of its own: each is private and says what is unsound there; one of both would be public in `queries`, which answers none.)
 #[derive(Clone, Copy)]
 pub(crate) struct Unsound;
 

@@ -15,7 +15,7 @@ use layout::parts;
 use layout::refusal::Refusal;
 use span::Span;
 
-// A record that the window reads has a tag of D or more: its store is unsound.
+// A record that the window reads has a tag of D or more: its store is unsound. (`timeslice` has an error of its own, and says why.)
 #[derive(Clone, Copy)]
 pub(crate) struct Unsound;
 
