@@ -1,9 +1,9 @@
 -- The tests of refusal 12 by their parts: where one decides, the rest may stay as they are (`refl`).
-use Rattle.std.specs.Prelude.{◌≡◌, refl, ◌≢◌, Bool, true, false, not, ◌&&◌, ◌||◌, List, [], ◌∷◌, ℕ, ◌+◌, ◌^◌, ◌≤◌, ◌<◌, eqb, ltb, leb, length}
+use Rattle.std.specs.Prelude.{◌≡◌, refl, ◌≢◌, Bool, true, false, not, ◌&&◌, ◌||◌, List, [], ◌∷◌, ℕ, ◌+◌, ◌≤◌, eqb, ltb, leb}
 use Rattle.std.specs.List.{list_any}
 use Rattle.std.proofs.Common.{sym, ◌∙◌, subst, arith, ltb-false, lt-ltb, le-ltb, le-leb, eq-eqb, ne_eqb}
 use Rattle.std.proofs.Math.Path.{ap, subst⁻¹}
-use Rattle.std.proofs.lemmas.Bool.{not-true, not-false, lt-leb}
+use Rattle.std.proofs.lemmas.Bool.{lt-leb}
 use Rattle.base.specs.Branch.{lt?, or-false}
 use Rattle.layout.specs.declared.head.Head.{Head}
 use Rattle.layout.specs.declared.standing.Standing.{Standing}
@@ -14,9 +14,7 @@ use Rattle.layout.specs.Memory.{Memory}
 use Rattle.layout.specs.Head.{placed}
 use Rattle.layout.specs.HeadLaws.{SoundHead}
 use Rattle.layout.specs.Spot.{Lies, place_lies}
-use Rattle.layout.specs.Standing.{slots, stands, lowered, first_slot, other_slots, block_bits}
-use Rattle.layout.specs.StandingLaws as empty
-use Rattle.layout.specs.StandingLaws.{TwoWords, slots_empty, slots_next, other_words, other_fewer}
+use Rattle.layout.specs.Standing.{slots, stands, lowered, block_bits}
 use Rattle.calls.specs.Placing.{block_of, slot_of}
 use Rattle.calls.specs.Refusals.{Test, any_of, opens, tag_block, closes, copies, acceptor_closes, after_clear, bad_place, bad_block, unsound_set, unsound_clear, blocks_out}
 use Rattle.decisions.specs.TestLaws.{RefusalOf, hit, miss, none}

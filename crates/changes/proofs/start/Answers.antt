@@ -1,6 +1,5 @@
 -- `start` meets its contract: turned away it leaves all words, else the layout filled with zeros and the head.
 use mathlib.Core.Path.{ap, ◌∙◌}
-use native.Mathlib.Omega.{arith}
 use Rattle.std.proofs.lemmas.Result.{err_from_is_err_and}
 use Rattle.layout.specs.Head.{with_head}
 use Rattle.decisions.specs.StartLaws.{go_start}
@@ -16,9 +15,6 @@ pub clear_layout-requires : goal.clear_layout-requires
 clear_layout-requires c =
     let g = go_start c.in_ok-settings.ensures in
     record { within = rw g.0 g.1.within; s_in_bounds = rw g.0 g.1.long }
-
-pub write_head-requires : goal.write_head-requires
-write_head-requires c = let g = go_start c.in_ok-settings.ensures in omega (arith, g.1.head)
 
 pub returns : goal.returns
 returns c =

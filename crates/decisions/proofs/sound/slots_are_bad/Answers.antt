@@ -1,5 +1,5 @@
 -- `sound::slots_are_bad` meets its contract: a look at each standing slot, in order, until one is bad.
-use mathlib.Core.Path.{sym, ap, ◌∙◌}
+use mathlib.Core.Path.{ap, ◌∙◌}
 use Prim.Native.Nat.{ℕ}
 use Rattle.std.proofs.Common.{rules}
 use Rattle.std.proofs.lemmas.Iterator.Search.{any_from_yields_List}

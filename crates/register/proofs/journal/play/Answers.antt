@@ -1,6 +1,5 @@
 -- `play` meets its contract: each kind by its own call.
-use native.Mathlib.Omega.{arith}
-use Rattle.register.specs.JournalLaws.{entered, passed, of_kind, of_none}
+use Rattle.register.specs.JournalLaws.{entered, of_kind}
 use Rattle.register.proofs.journal.play.Goals as goal
 
 pub returns-in-1 : goal.returns-in-1
@@ -17,7 +16,3 @@ returns-in-4 c = entered (of_kind _ _ _ _ 4 c.in-4.is) c.register_update.ensures
 
 pub returns-in-5 : goal.returns-in-5
 returns-in-5 c = entered (of_kind _ _ _ _ 5 c.in-5.is) c.register_advance.ensures
-
-pub returns-in_default : goal.returns-in_default
-returns-in_default c =
-    passed (of_none {kind = c.args.kind} _ _ _ _ (λ e. omega (arith, e)) (λ e. omega (arith, e)) (λ e. omega (arith, e)) (λ e. omega (arith, e)) (λ e. omega (arith, e)))

@@ -1,7 +1,7 @@
 -- `note_block` meets its contract: its slots are noted one after another, where it is read.
 use Rattle.std.proofs.Common.{arith}
 use Rattle.window.specs.Noted.{unsound_is}
-use Rattle.window.specs.BlockLaws.{notes_noted, block_begin, block_passed, block_noted, block_unknown}
+use Rattle.window.specs.BlockLaws.{block_begin, block_passed, block_noted, block_unknown}
 use Rattle.window.proofs.span.Span.note_block.Goals as goal
 
 pub returns-then-not-is_read : goal.returns-then-not-is_read
@@ -17,9 +17,6 @@ returns-in_err-note_slot c =
     rw (unsound_is c.from_residual.ensures.0)
     (block_unknown c.args.self.now _ c.requires.numbered.low c.block-block.ensures.read
     c.is_read.ensures c.if-not-is_read.false c.loop-k-test.true c.note_slot.ensures c.in_err-note_slot.was)
-
-pub loop-k-preserved : goal.loop-k-preserved
-loop-k-preserved c = notes_noted c.note_slot.ensures c.in_ok-note_slot.was
 
 pub returns : goal.returns
 returns c =
