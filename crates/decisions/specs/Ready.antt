@@ -1,12 +1,13 @@
 -- What is known of the words where a call is looked at, and where it may go on.
 use Rattle.std.specs.Prelude.{◌≡◌, ◌≢◌, false, List, ℕ, ◌+◌, ◌≤◌, ◌<◌, length}
+use Rattle.std.proofs.Props.{props}
 use Rattle.layout.specs.declared.settings.Settings.{Settings}
 use Rattle.layout.specs.declared.head.Head.{Head}
 use Rattle.layout.specs.declared.address.Address.TheVariants.{Dir}
 use Rattle.layout.specs.Sizes.{OPEN, head_len, layout_len}
 use Rattle.layout.specs.Memory.{Memory}
 use Rattle.layout.specs.Settings.{Within}
-use Rattle.layout.specs.OnWords.{Held}
+use Rattle.layout.specs.OnWords.{over, Held}
 use Rattle.queries.specs.declared.opened.Opened.{Opened}
 use Rattle.queries.specs.Readable.{Readable, words_of}
 use Rattle.calls.specs.Refusals.{tag_block, copies, unsound_set, unsound_clear, blocks_out}
@@ -19,6 +20,11 @@ words_in o = words_of o.head o.store.now
 pub record PlaceOf (o : Opened) (tag p : ℕ) : Type 0 where
   pub is : p ≡ words_in o (Dir tag)
   pub some : 1 ≤ p
+
+-- (it is one fact, so that a value may keep it)
+pub place_of_prop : (o : Opened) (tag p : ℕ) → IsProp (PlaceOf o tag p)
+unfolding over
+place_of_prop o tag p = hlevel props
 
 -- ---- where no refusal applies
 -- a change or clock move at a second

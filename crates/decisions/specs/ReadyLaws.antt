@@ -11,6 +11,7 @@ use Rattle.layout.specs.HeadLaws.{HeadRead, passes}
 use Rattle.layout.specs.OnWords.{fits_held}
 use Rattle.calls.specs.Refusals.{Test, time_tests, set_own, clear_own, set_tests, clear_tests}
 use Rattle.calls.specs.Step.{words_read}
+use Rattle.queries.specs.Readable.{Readable}
 use Rattle.decisions.specs.Verdict.{Verdict}
 use Rattle.decisions.specs.Ready.{ReadyTime, ReadySet, ReadyClear}
 use Rattle.decisions.specs.TestLaws.{numbers, NoneApplies, none_applies}
@@ -24,7 +25,8 @@ none_time {ws} {s} (cons a (cons b (cons c (cons d (cons e n))))) =
     let known = leb-false _ s d in
     let later : (head_of ws).cursor.clock ≤ s = ltb-false s _ e in
     let head : HeadRead ws (head_of ws) = passes ws (ltb-false _ _ a) (omega arith) b in
-    (record { ready = record { is = refl; sound = head.sound; held = fits_held (record { long = long }) head.sound.within }; not_open = known; not_early = later }, n)
+    let ready : Readable ws (head_of ws) = record { is = refl; sound = head.sound; marked = head.marked; spare = head.spare; held = fits_held (record { long = long }) head.sound.within } in
+    (record { ready = ready; not_open = known; not_early = later }, n)
 
 none_set : {ws : List ℕ} {s tag : ℕ} → ReadyTime ws (head_of ws) s → NoneApplies (set_own (head_of ws) (words_read ws) tag) → ReadySet ws (head_of ws) s tag
 none_set t (cons a (cons b (cons c (cons d nil)))) =

@@ -3,6 +3,7 @@
 #![tactic(auto)]
 
 mod effect;
+mod entry;
 mod own;
 mod sound;
 mod start;

@@ -2,14 +2,14 @@
 ghost use Rattle.std.specs.Prelude.{◌≡◌, leb};
 ghost use Rattle.layout.specs.RefusalNumbers.{refused};
 ghost use Rattle.calls.specs.Refusals.{set_own, clear_own};
-ghost use Rattle.decisions.specs.Ready.{words_in, PlaceOf};
+ghost use Rattle.decisions.specs.Ready.{words_in};
 ghost use Rattle.decisions.specs.Verdict.{more};
 ghost use Rattle.decisions.specs.TestLaws.{RefusalOf};
-ghost use Rattle.decisions.specs.SoundLaws.{out_test, ending_tests};
+ghost use Rattle.decisions.specs.SoundLaws.{out_test};
 
+use crate::entry::Entry;
 use crate::{effect, sound};
 use layout::address::Address;
-use layout::place;
 use layout::refusal::Refusal;
 use queries::Opened;
 
@@ -21,7 +21,7 @@ fn beyond_tags(found: &Opened, tag: u32) -> bool
 }
 
 // Refusal 13 where a block opens.
-fn test_opening(found: &Opened) -> Result<(), Refusal>
+pub(crate) fn test_opening(found: &Opened) -> Result<(), Refusal>
     ensures { RefusalOf (out_test found.now.head) (refused result) }
 {
     if effect::all_opened(found) {
@@ -49,28 +49,6 @@ pub(crate) fn test_set(found: &Opened, tag: u32) -> Result<(), Refusal>
     test_opening(found)
 }
 
-// Refusals 12 and 13 of a clear or a new reading of the tag at place p. Most of them open no block, too.
-fn test_ending(found: &Opened, tag: u32, p: u32, renews: bool) -> Result<(), Refusal>
-    requires { PlaceOf found.now tag p }
-    ensures { RefusalOf (ending_tests (more renews) found.now.head (words_in found.now) tag) (refused result) }
-{
-    if sound::place_is_bad(found, tag, p) {
-        return Err(Refusal::Unsound);
-    }
-    let n = place::block_of(found.head.settings, p);
-    if sound::closing_is_bad(found, n) {
-        return Err(Refusal::Unsound);
-    }
-    let incoming = effect::incoming(found, n, renews);
-    if !effect::opens(found, incoming) {
-        return Ok(());
-    }
-    if sound::unsound_after_clear(found, tag, p) {
-        return Err(Refusal::Unsound);
-    }
-    test_opening(found)
-}
-
 // Refusals 8, 10, 12 and 13 of a clear or a new reading.
 pub(crate) fn test_clear(found: &Opened, tag: u32, renews: bool) -> Result<(), Refusal>
     ensures { RefusalOf (clear_own (more renews) found.now.head (words_in found.now) tag) (refused result) }
@@ -78,10 +56,11 @@ pub(crate) fn test_clear(found: &Opened, tag: u32, renews: bool) -> Result<(), R
     if beyond_tags(found, tag) {
         return Err(Refusal::Tag);
     }
-    let p = found.read(Address::Dir(tag));
+    let place = found.read(Address::Dir(tag));
     // A word of the store: 0 where nothing stands, as document 01 lays the directory out.
-    if p == 0 {
+    if place == 0 {
         return Err(Refusal::NotStanding);
     }
-    test_ending(found, tag, p, renews)
+    let entry = Entry { found, tag, place };
+    entry.test_ending(renews)
 }

@@ -1,33 +1,16 @@
-// Refusal 12 of a change: a place, link, bit or tag that it needs is unsound.
+// Refusal 12 of a change: a link, bit or tag of a block that it needs is unsound. (Of a place: entry.rt.)
 ghost use Rattle.std.specs.Prelude.{◌≡◌, ◌&&◌, ◌≤◌};
 ghost use Rattle.layout.specs.Address.{Numbered};
 ghost use Rattle.layout.specs.Standing.{slots, block_bits};
-ghost use Rattle.layout.specs.Spot.{Lies};
-ghost use Rattle.calls.specs.Refusals.{any_of, closes, after_clear, bad_place, bad_block};
-ghost use Rattle.decisions.specs.Ready.{words_in, PlaceOf};
+ghost use Rattle.calls.specs.Refusals.{any_of, closes, bad_block};
+ghost use Rattle.decisions.specs.Ready.{words_in};
 ghost use Rattle.decisions.specs.SoundLaws.{bad_links, bad_slot, bad_acceptor};
 
 use crate::effect;
 use layout::address::Address;
+use layout::fields;
 use layout::standing::Standing;
-use layout::{fields, place};
 use queries::Opened;
-
-// The place p of a tag is above the records placed, or its record has another tag or no standing bit.
-pub(crate) fn place_is_bad(found: &Opened, tag: u32, p: u32) -> bool
-    requires { PlaceOf found.now tag p }
-    ensures { result ≡ bad_place found.now.head (words_in found.now) tag }
-{
-    if found.head.placed() < p {
-        return true;
-    }
-    let n = place::block_of(found.head.settings, p);
-    let k = place::slot_of(found.head.settings, p);
-    if found.read(Address::Slot(n, k, fields::TAG)) != tag {
-        return true;
-    }
-    !found.standing(n).has(k)
-}
 
 // An up not below its block; a right, unless the block is the acceptor, not above it and up to N.
 fn links_are_bad(found: &Opened, n: u32) -> bool
@@ -79,7 +62,7 @@ fn block_is_bad(found: &Opened, n: u32) -> bool
 }
 
 // The acceptor, with standing bits b, closes where a block opens, and is unsound.
-fn acceptor_is_bad(found: &Opened, b: Standing) -> bool
+pub(crate) fn acceptor_is_bad(found: &Opened, b: Standing) -> bool
     requires { 1 ≤ found.now.head.cursor.opened }
     ensures { result ≡ bad_acceptor found.now.head (words_in found.now) b }
 {
@@ -98,30 +81,6 @@ pub(crate) fn unsound_for_set(found: &Opened) -> bool
         return false;
     }
     let b = found.standing(found.head.cursor.opened);
-    acceptor_is_bad(found, b)
-}
-
-// The acceptor's standing bits, with the record at place p ended if it lies there.
-fn after_clear(found: &Opened, tag: u32, p: u32) -> Standing
-    requires place_of { PlaceOf found.now tag p }
-    requires lies { Lies found.now.head p }
-    ensures { result ≡ after_clear found.now.head (words_in found.now) tag }
-{
-    let b = found.standing(found.head.cursor.opened);
-    if place::block_of(found.head.settings, p) == found.head.cursor.opened {
-        return b.without(place::slot_of(found.head.settings, p));
-    }
-    b
-}
-
-// The acceptor as a clear of the tag at place p leaves it.
-pub(crate) fn unsound_after_clear(found: &Opened, tag: u32, p: u32) -> bool
-    requires place_of { PlaceOf found.now tag p }
-    requires lies { Lies found.now.head p }
-    ensures { result ≡ bad_acceptor found.now.head (words_in found.now)
-        (after_clear found.now.head (words_in found.now) tag) }
-{
-    let b = after_clear(found, tag, p);
     acceptor_is_bad(found, b)
 }
 

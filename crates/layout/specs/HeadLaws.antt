@@ -1,7 +1,8 @@
 -- What a head that was read is known to be.
-use Rattle.std.specs.Prelude.{◌≡◌, refl, Bool, true, false, not, ◌&&◌, ◌||◌, List, ℕ, ◌+◌, ◌*◌, ◌-◌, ◌≤◌, ◌<◌, eqb, ltb, leb, get_or}
+use Rattle.std.specs.Prelude.{◌≡◌, refl, Bool, true, false, not, ◌&&◌, ◌||◌, List, [], ◌∷◌, ℕ, zero, suc, ◌+◌, ◌*◌, ◌-◌, ◌≤◌, ◌<◌, eqb, ltb, leb, get_or, take, drop}
+use Rattle.std.specs.List.{list_all}
 use Rattle.std.proofs.Common.{arith, mul-le-mul, length-drop}
-use Rattle.std.proofs.Math.Bool.{cond}
+use Rattle.std.proofs.Math.Bool.{cond, and-true as both-true}
 use Rattle.std.proofs.Math.ListN.{length}
 use borrow.Author.Tests.{eqb-true, eqb-false, eq-eqb, ne_eqb, ltb-false, leb-true, le-leb, not-false}
 use Rattle.base.specs.Branch.{by_test, is?, and-true, or-false}
@@ -31,10 +32,16 @@ pub record HeadRead (ws : List ℕ) (h : Head) : Type 0 where
   pub spare : spare_zero ws ≡ true
 
 -- ---- the tests of the words, by their parts: where one decides, the rest may stay as they are (`refl`)
-pub spare-zero : (ws : List ℕ) {a b c d e f : Bool} → eqb (get_or ws head_spare 0) 0 ≡ a → eqb (get_or ws (head_spare + 1) 0) 0 ≡ b
-    → eqb (get_or ws (head_spare + 2) 0) 0 ≡ c → eqb (get_or ws (head_spare + 3) 0) 0 ≡ d → eqb (get_or ws (head_spare + 4) 0) 0 ≡ e
-    → eqb (get_or ws (head_spare + 5) 0) 0 ≡ f → spare_zero ws ≡ (a && (b && (c && (d && (e && f)))))
-spare-zero ws a b c d e f = rw (a, b, c, d, e, f)
+zero_at : (i n : ℕ) (ws : List ℕ) → list_all (λ w. eqb w 0) (take (suc n) (drop i ws)) ≡ (eqb (get_or ws i 0) 0 && list_all (λ w. eqb w 0) (take n (drop (suc i) ws)))
+zero_at zero zero [] = refl
+zero_at zero (suc n) [] = refl
+zero_at (suc i) zero [] = refl
+zero_at (suc i) (suc n) [] = refl
+zero_at zero n (x ∷ ws) = refl
+zero_at (suc i) n (x ∷ ws) = zero_at i n ws
+
+pub spare_all : (ws : List ℕ) → list_all (λ w. eqb w 0) (take (head_len - head_spare) (drop head_spare ws)) ≡ spare_zero ws
+spare_all ws = rw (zero_at 10 5 ws, zero_at 11 4 ws, zero_at 12 3 ws, zero_at 13 2 ws, zero_at 14 1 ws, zero_at 15 0 ws, both-true) refl
 
 pub bad-head : (ws : List ℕ) {h : Head} → h ≡ head_of ws → {m w n c s f : Bool} → eqb (get_or ws head_mark 0) mark ≡ m → in_limits h.settings ≡ w
     → ltb h.settings.blocks h.cursor.opened ≡ n → eqb h.cursor.clock OPEN ≡ c → spare_zero ws ≡ s → fill_fits h ≡ f

@@ -1,10 +1,11 @@
 -- Standing bits: the slots in order, the first taken off, one raised, one lowered.
-use Rattle.std.specs.Prelude.{◌≡◌, ◌≢◌, Bool, false, cond, ◌&&◌, [], ◌∷◌, ℕ, ◌+◌, ◌-◌, ◌^◌, ◌≤◌, ◌<◌, ltb}
+use Rattle.std.specs.Prelude.{◌≡◌, ◌≢◌, Bool, false, cond, ◌&&◌, [], ◌∷◌, ℕ, ◌+◌, ◌-◌, ◌%◌, ◌^◌, ◌≤◌, ◌<◌, ltb}
 use Rattle.std.proofs.Math.Path.{refl}
 use Rattle.std.proofs.Common.{sym, ◌∙◌, arith, eqb-true, eq-eqb, ne_eqb, lt-ltb, le-ltb}
 use Rattle.std.proofs.Math.Bool.{true}
 use Rattle.std.proofs.Math.Dec.{eqb}
 use Rattle.std.proofs.Math.ListN.{length, length-append}
+use Rattle.std.proofs.Math.Nat.{mod-eq_of_lt, mod-eq-sub-mod}
 use Rattle.std.proofs.lemmas.Nat.{and_le_l}
 use Rattle.std.proofs.lemmas.Bool.{eqb-false}
 use Rattle.base.specs.Branch.{lt?, is?, and-true}
@@ -68,6 +69,21 @@ high_slot : (b : Standing) (k : ℕ) → 32 ≤ k → stands b k ≡ eqb (bit_at
 unfolding stands
 high_slot b k h = simp (le-ltb k 32 h)
 
+-- ---- the word that has slot k's bit, and that word replaced
+abbrev pub word_of : Standing → ℕ → ℕ
+word_of b k = cond (ltb k 32) b.low b.high
+
+abbrev pub with_word : Standing → ℕ → ℕ → Standing
+with_word b k x = cond (ltb k 32) (record { low = x; high = b.high }) (record { low = b.low; high = x })
+
+high_bit : (k : ℕ) → 32 ≤ k → k < 64 → k % 32 ≡ k - 32
+high_bit k h l = mod-eq-sub-mod h ∙ mod-eq_of_lt (omega arith)
+
+pub bit_stands : (b : Standing) (k : ℕ) → k < 64 → stands b k ≡ eqb (bit_at (k % 32) (word_of b k)) 1
+bit_stands b k l = lt? k 32
+    (λ h. low_slot b k h ∙ rw (lt-ltb k 32 h, mod-eq_of_lt h))
+    (λ h. high_slot b k h ∙ rw (le-ltb k 32 h, high_bit k h l))
+
 -- The slots are, in order, the numbers below 64 that stand.
 pub slots_list : (b : Standing) → Lists (λ k. stands b k ≡ true) 0 64 (slots b)
 unfolding slots_of
@@ -103,6 +119,11 @@ module _ (f : ℕ → ℕ → ℕ) (b : Standing) (k : ℕ) where
       (λ h. lt? j 32
       (λ l. low_slot (changed f b k) j l ∙ rw (change_high h) (sym (low_slot b j l)))
       (λ l. high_slot (changed f b k) j l ∙ rw (change_high h, g (k - 32) (j - 32) b.high (λ e. d (omega arith))) (sym (high_slot b j l))))
+
+  pub change_word : k < 64 → changed f b k ≡ with_word b k (f (k % 32) (word_of b k))
+  change_word l = lt? k 32
+      (λ h. change_low h ∙ rw (lt-ltb k 32 h, mod-eq_of_lt h))
+      (λ h. change_high h ∙ rw (le-ltb k 32 h, high_bit k h l))
 
 module _ (b : Standing) (k : ℕ) where
   -- ---- a slot raised, and the others as they were

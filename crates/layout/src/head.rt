@@ -4,7 +4,7 @@ ghost use Rattle.std.specs.Prelude.{◌≡◌, ◌≤◌, ◌<◌, length, IfOk}
 ghost use Rattle.layout.specs.Sizes.{head_len, layout_len};
 ghost use Rattle.layout.specs.Settings.{Within};
 ghost use Rattle.layout.specs.RefusalNumbers.{refused};
-ghost use Rattle.layout.specs.Head.{fresh_head, onward, head_of, head_words, with_head, cleared, fill_fits, spare_zero, bad_head, head_refusal, placed};
+ghost use Rattle.layout.specs.Head.{fresh_head, onward, head_of, with_head, cleared, fill_fits, spare_zero, bad_head, head_refusal, placed};
 ghost use Rattle.layout.specs.HeadLaws.{SoundHead, HeadRead};
 ghost use Rattle.layout.specs.Cursor.{at, filled, grown, relinked, store_cursor};
 ghost use Rattle.layout.specs.Ran.{Ran};
@@ -99,30 +99,6 @@ impl Head {
         })
     }
 
-    // The words that hold it: the last six are zeros.
-    fn words(self) -> [u32; sizes::HEAD_LEN]
-        ensures { result ≡ head_words self }
-    {
-        [
-            sizes::MARK,
-            self.settings.block,
-            self.settings.useful,
-            self.settings.blocks,
-            self.settings.tags,
-            self.cursor.opened,
-            self.cursor.clock,
-            self.cursor.fill,
-            self.cursor.child,
-            self.cursor.right,
-            0,
-            0,
-            0,
-            0,
-            0,
-            0,
-        ]
-    }
-
     // Records placed so far: every block before the acceptor is full.
     pub fn placed(self) -> u32
         requires { SoundHead self }
@@ -145,60 +121,65 @@ impl Head {
     }
 }
 
-// The head that the words hold, right or wrong.
-pub fn head_of(store: &[u32]) -> Head
-    requires { head_len ≤ length store.now }
-    ensures { result ≡ head_of store.now }
-{
-    let settings = Settings {
-        block: store[fields::HEAD_BLOCK],
-        useful: store[fields::HEAD_USEFUL],
-        blocks: store[fields::HEAD_BLOCKS],
-        tags: store[fields::HEAD_TAGS],
-    };
-    let cursor = Cursor {
-        opened: store[fields::HEAD_OPENED],
-        clock: store[fields::HEAD_CLOCK],
-        fill: store[fields::HEAD_FILL],
-        child: store[fields::HEAD_CHILD],
-        right: store[fields::HEAD_RIGHT],
-    };
-    Head { settings, cursor }
+// Words that are long enough for a head, right or wrong.
+#[derive(Clone, Copy)]
+struct HeadWords<'a> {
+    words: &'a [u32],
+    ghost long: { head_len ≤ length words.now },
 }
 
-// The last six words are zero.
-fn spare_zero(store: &[u32]) -> bool
-    requires { head_len ≤ length store.now }
-    ensures { result ≡ spare_zero store.now }
-{
-    matches!(
-        &store[fields::HEAD_SPARE..sizes::HEAD_LEN],
-        [0, 0, 0, 0, 0, 0]
-    )
-}
+impl HeadWords<'_> {
+    // The head that they hold.
+    fn head(&self) -> Head
+        ensures { result ≡ head_of self.now.words.now }
+    {
+        let words = self.words;
+        let settings = Settings {
+            block: words[fields::HEAD_BLOCK],
+            useful: words[fields::HEAD_USEFUL],
+            blocks: words[fields::HEAD_BLOCKS],
+            tags: words[fields::HEAD_TAGS],
+        };
+        let cursor = Cursor {
+            opened: words[fields::HEAD_OPENED],
+            clock: words[fields::HEAD_CLOCK],
+            fill: words[fields::HEAD_FILL],
+            child: words[fields::HEAD_CHILD],
+            right: words[fields::HEAD_RIGHT],
+        };
+        Head { settings, cursor }
+    }
 
-// Refusal 3: words that no start and no change left.
-fn bad_head(store: &[u32]) -> bool
-    requires { head_len ≤ length store.now }
-    ensures { result ≡ bad_head store.now }
-{
-    if store[fields::HEAD_MARK] != sizes::MARK {
-        return true;
+    // The last six words are zero.
+    fn spare_zero(&self) -> bool
+        ensures { result ≡ spare_zero self.now.words.now }
+    {
+        let spare = &self.words[fields::HEAD_SPARE..sizes::HEAD_LEN];
+        spare.iter().all(|&word| word == 0)
     }
-    let h = head_of(store);
-    if !h.settings.within() {
-        return true;
+
+    // Refusal 3: no start and no change left them.
+    fn bad_head(&self) -> bool
+        ensures { result ≡ bad_head self.now.words.now }
+    {
+        if self.words[fields::HEAD_MARK] != sizes::MARK {
+            return true;
+        }
+        let h = self.head();
+        if !h.settings.within() {
+            return true;
+        }
+        if h.settings.blocks < h.cursor.opened {
+            return true;
+        }
+        if h.cursor.clock == sizes::OPEN {
+            return true;
+        }
+        if !self.spare_zero() {
+            return true;
+        }
+        !h.fill_fits()
     }
-    if h.settings.blocks < h.cursor.opened {
-        return true;
-    }
-    if h.cursor.clock == sizes::OPEN {
-        return true;
-    }
-    if !spare_zero(store) {
-        return true;
-    }
-    !h.fill_fits()
 }
 
 // The head that the words hold. A store that has none is refused, and so is a bad head.
@@ -209,10 +190,11 @@ pub fn read_head(store: &[u32]) -> Result<Head, Refusal>
     if store.len() < sizes::HEAD_LEN {
         return Err(Refusal::ShortHead);
     }
-    if bad_head(store) {
+    let words = HeadWords { words: store };
+    if words.bad_head() {
         return Err(Refusal::Head);
     }
-    Ok(head_of(store))
+    Ok(words.head())
 }
 
 // All 16 words, the last six as zeros.
@@ -220,7 +202,18 @@ pub fn write_head(store: &mut [u32], h: Head)
     requires { head_len ≤ length store.old }
     ensures { store.new ≡ with_head h store.old }
 {
-    store[..sizes::HEAD_LEN].copy_from_slice(&h.words());
+    let words = &mut store[..sizes::HEAD_LEN];
+    parts::zero_all(words);
+    words[fields::HEAD_MARK] = sizes::MARK;
+    words[fields::HEAD_BLOCK] = h.settings.block;
+    words[fields::HEAD_USEFUL] = h.settings.useful;
+    words[fields::HEAD_BLOCKS] = h.settings.blocks;
+    words[fields::HEAD_TAGS] = h.settings.tags;
+    words[fields::HEAD_OPENED] = h.cursor.opened;
+    words[fields::HEAD_CLOCK] = h.cursor.clock;
+    words[fields::HEAD_FILL] = h.cursor.fill;
+    words[fields::HEAD_CHILD] = h.cursor.child;
+    words[fields::HEAD_RIGHT] = h.cursor.right;
 }
 
 // The words that a change moves on; the settings are never written again.

@@ -8,6 +8,7 @@ pub mod head;
 pub mod parts;
 pub mod payload;
 pub mod place;
+pub mod record;
 pub mod refusal;
 pub mod settings;
 mod sizes;

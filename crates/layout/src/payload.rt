@@ -1,14 +1,13 @@
 // WHAT A RECORD TELLS beside its tag, from and to: a set or a new reading writes it, and every copy carries it whole.
-ghost use Rattle.std.specs.Prelude.{◌≡◌, ◌+◌, ◌*◌, ◌≤◌, length};
-ghost use Rattle.layout.specs.Sizes.{block_head, record_len};
+ghost use Rattle.std.specs.Prelude.{◌≡◌};
 ghost use Rattle.layout.specs.Spot.{Spot};
 ghost use Rattle.layout.specs.OnWords.{over, Held};
 ghost use Rattle.layout.specs.Ran.{Ran};
-ghost use Rattle.layout.specs.Payload.{new_payload, payload_in, get_payload, set_payload};
+ghost use Rattle.layout.specs.Payload.{new_payload, get_payload, set_payload};
 
 use crate::address::Address;
 use crate::settings::Settings;
-use crate::{address, fields, parts};
+use crate::{address, fields};
 
 #[derive(Clone, Copy)]
 pub struct Payload {
@@ -46,15 +45,4 @@ pub fn write(store: &mut [u32], s: Settings, n: u32, k: u32, p: Payload)
 {
     address::write(store, s, Address::Slot(n, k, fields::READING), p.reading);
     address::write(store, s, Address::Slot(n, k, fields::SINCE), p.since);
-}
-
-// Of the record in slot k of a block.
-pub fn in_slot(block: &[u32], k: u32) -> Payload
-    requires { block_head + (record_len * k + record_len) ≤ length block.now }
-    ensures { result ≡ payload_in block.now k }
-{
-    Payload {
-        reading: parts::slot_word(block, k, fields::READING),
-        since: parts::slot_word(block, k, fields::SINCE),
-    }
 }

@@ -1,6 +1,6 @@
 // Why a call is turned away. Each refusal has its number, which a caller by numbers gets (0 is none).
 ghost use Rattle.std.specs.Prelude.{◌≡◌};
-ghost use Rattle.layout.specs.RefusalNumbers.{number};
+ghost use Rattle.layout.specs.RefusalNumbers.{number, refused};
 
 #[derive(Clone, Copy, Debug, PartialEq, Eq)]
 pub enum Refusal {
@@ -40,5 +40,15 @@ impl Refusal {
         ensures { result ≡ number self }
     {
         self as u32
+    }
+}
+
+// 0 for what was accepted, else the refusal's number.
+pub fn number_of<T: Copy>(answer: Result<T, Refusal>) -> u32
+    ensures { result ≡ refused answer }
+{
+    match answer {
+        Ok(_) => 0,
+        Err(reason) => reason.number(),
     }
 }

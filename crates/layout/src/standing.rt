@@ -1,9 +1,12 @@
 // A block's standing bits as one value: slot k stands while bit k is 1.
+//
+// That a bit's number is below 32 and a slot's below 64 stay clauses: the numbers are counted by callers, as words of the store and loops give them, and a
+// type for each would be made for the call and taken apart in its first line.
 ghost use Rattle.std.specs.Prelude.{◌≡◌, ◌^◌, ◌<◌, ◌∷◌, [], MatchOption, eqb, length};
 ghost use Rattle.base.specs.Bits.{bit_at, with_bit, without_bit};
 ghost use Rattle.base.specs.Ones.{lower_off};
 ghost use Rattle.layout.specs.Standing.{slots, stands, raised, lowered, first_slot, other_slots};
-ghost use Rattle.layout.specs.StandingLaws.{none};
+ghost use Rattle.layout.specs.StandingLaws.{none, word_of, with_word};
 ghost use Rattle.layout.specs.SlotsLeft.{slots_left};
 ghost use Rattle.std.specs.Iterator.{YieldsFirst, item_count};
 
@@ -31,7 +34,7 @@ fn weight(k: u32) -> u32
     1u32 << k
 }
 
-// A word of standing bits with bit k made 1. (Beside `bit_off` and no case of one function: that would test which of the two at each bit.)
+// A word of standing bits with bit k made 1.
 pub fn bit_on(x: u32, k: u32) -> u32
     requires { k < 32 }
     ensures { result ≡ with_bit k x }
@@ -39,7 +42,7 @@ pub fn bit_on(x: u32, k: u32) -> u32
     x | weight(k)
 }
 
-// A word of standing bits with bit k made 0.
+// A word of standing bits with bit k made 0. (No twin of `bit_on`: the operation on the word is another, not a constant in it.)
 pub fn bit_off(x: u32, k: u32) -> u32
     requires { k < 32 }
     ensures { result ≡ without_bit k x }
@@ -68,15 +71,29 @@ impl Standing {
         (u64::from(self.high) * Self::HIGH_WEIGHT + u64::from(self.low)).count_ones()
     }
 
+    // The word that has slot k's bit, which is bit k modulo 32 there.
+    fn word(self, k: u32) -> u32
+        ensures { result ≡ word_of self k }
+    {
+        if k < 32 { self.low } else { self.high }
+    }
+
+    // That word replaced.
+    fn with_word(self, k: u32, x: u32) -> Standing
+        ensures { result ≡ with_word self k x }
+    {
+        if k < 32 {
+            return Standing { low: x, ..self };
+        }
+        Standing { high: x, ..self }
+    }
+
     // Slot k stands.
     pub fn has(self, k: u32) -> bool
         requires { k < 64 }
         ensures { result ≡ stands self k }
     {
-        if k < 32 {
-            return bit(self.low, k);
-        }
-        bit(self.high, k - 32)
+        bit(self.word(k), k % 32)
     }
 
     // Slot k made to stand.
@@ -84,16 +101,7 @@ impl Standing {
         requires { k < 64 }
         ensures { result ≡ raised self k }
     {
-        if k < 32 {
-            return Standing {
-                low: bit_on(self.low, k),
-                ..self
-            };
-        }
-        Standing {
-            high: bit_on(self.high, k - 32),
-            ..self
-        }
+        self.with_word(k, bit_on(self.word(k), k % 32))
     }
 
     // Slot k made to stand no more.
@@ -101,16 +109,7 @@ impl Standing {
         requires { k < 64 }
         ensures { result ≡ lowered self k }
     {
-        if k < 32 {
-            return Standing {
-                low: bit_off(self.low, k),
-                ..self
-            };
-        }
-        Standing {
-            high: bit_off(self.high, k - 32),
-            ..self
-        }
+        self.with_word(k, bit_off(self.word(k), k % 32))
     }
 
     // The first slot that stands, and the others.
@@ -137,7 +136,7 @@ impl Standing {
         self.low == 0 && self.high == 0
     }
 
-    // The first slot that stands (64 where none does).
+    // The first slot that stands; 64 where none does, as a word of 32 bits has 32 zeros at its end. (No `Option`: `split_first` has tested.)
     pub fn first(self) -> u32
         ensures { result ≡ first_slot self }
     {

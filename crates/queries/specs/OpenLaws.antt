@@ -11,7 +11,7 @@ use Rattle.layout.specs.RefusalLaws.{number_some}
 use Rattle.layout.specs.SettingsLaws.{StoreLong}
 use Rattle.layout.specs.Head.{bad_head, head_refusal, head_of}
 use Rattle.layout.specs.HeadLaws.{HeadRead, head_passes}
-use Rattle.layout.specs.OnWords.{fits_held}
+use Rattle.layout.specs.OnWords.{fits_held, held_fits}
 use Rattle.calls.specs.Refusals.{Test, refusal, store_tests}
 use Rattle.queries.specs.declared.opened.Opened.{Opened}
 use Rattle.queries.specs.Readable.{Readable}
@@ -44,7 +44,7 @@ module _ {ws : List ℕ} (none : 0 ≡ head_refusal ws) {h : Head} (read : HeadR
   pub words_readable : n ≤ length ws → Readable ws h
   words_readable a =
       let k : layout_len h.settings ≤ length ws = rw long.is at a in
-      record { is = read.is; sound = read.sound; held = fits_held (record { long = k }) read.sound.within }
+      record { is = read.is; sound = read.sound; marked = read.marked; spare = read.spare; held = fits_held (record { long = k }) read.sound.within }
 
   pub words_enough : {o : Opened} → o.store.now ≡ ws → n ≤ length ws → Opens ws (Ok o)
   words_enough s a =
@@ -54,6 +54,13 @@ module _ {ws : List ℕ} (none : 0 ≡ head_refusal ws) {h : Head} (read : HeadR
       opened s (λ l. rw (le-ltb _ _ p.0, p.1, le-ltb _ _ k'))
 
 -- ---- what a query knows
+-- all that is known of a head that was read,
+pub was_read : {ws : List ℕ} {h : Head} → Readable ws h → HeadRead ws h
+unfolding layout_len
+was_read {ws} {h} r =
+    let all : layout_len h.settings ≤ length ws = (held_fits r.held).long in
+    record { is = r.is; sound = r.sound; long = omega (arith, all); marked = r.marked; spare = r.spare }
+
 -- the store is refused, whatever its own tests are,
 pub shut_by : {ws : List ℕ} {e : Refusal} → Opens ws (Err e)
     → ((l : List Test) → refusal (store_tests ws l) ≡ number e) × ((eqb (number e) 0 || eqb (number e) UNSOUND) ≡ false)

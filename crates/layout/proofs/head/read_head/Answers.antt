@@ -22,5 +22,5 @@ returns-clause-refusal c = simp (le-ltb _ _ c.if-store-lt-HEAD_LEN.false, sym c.
 
 pub returns-clause-head : goal.returns-clause-head
 returns-clause-head c =
-    let k : c.head_of.result.cursor.clock ≤ OPEN = omega arith in
-    rw c.head_of.ensures (passes _ c.if-store-lt-HEAD_LEN.false (rw c.head_of.ensures at k) (sym c.bad_head.ensures ∙ c.if-bad_head.false))
+    let k : c.head.result.cursor.clock ≤ OPEN = omega arith in
+    rw c.head.ensures (passes _ c.if-store-lt-HEAD_LEN.false (rw c.head.ensures at k) (sym c.bad_head.ensures ∙ c.if-bad_head.false))

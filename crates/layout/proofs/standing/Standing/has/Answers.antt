@@ -1,13 +1,7 @@
--- `Standing::has` meets its contract: slot k is bit k of the low word, or k - 32 of the high one.
-use mathlib.Core.Path.{◌∙◌}
-use borrow.Author.Tests.{lt-ltb, le-ltb}
-use Rattle.layout.specs.Standing.{stands}
+-- `Standing::has` meets its contract: slot k is a bit of the word that has it.
+use Rattle.std.proofs.Common.{sym, ◌∙◌}
+use Rattle.layout.specs.StandingLaws.{bit_stands}
 use Rattle.layout.proofs.standing.Standing.has.Goals as goal
 
-pub returns-then-k-lt32 : goal.returns-then-k-lt32
-unfolding stands
-returns-then-k-lt32 c = c.bit.ensures ∙ simp (lt-ltb _ _ c.if-k-lt32.true)
-
 pub returns : goal.returns
-unfolding stands
-returns c = c.bit-2.ensures ∙ simp (le-ltb _ _ c.if-k-lt32.false)
+returns c = c.bit.ensures ∙ rw c.word.ensures (sym (bit_stands _ _ c.requires))
