@@ -9,6 +9,7 @@ use layout::{PAGE, parts};
 use queries::Unsound;
 
 // The block that starts the path, if there is one; how many pages are read, and on each level the page passed, if one is.
+// (How many are read stands beside them, counted on the way: that they are as many as the array has follows only since levels fall, which is the theory's.)
 #[derive(Clone, Copy)]
 pub struct PathStart {
     pub block: Option<u32>,
@@ -110,7 +111,9 @@ impl Past<'_> {
         Ok(found.passing(below, e))
     }
 
-    // From the top page down: no page is read with N = 0, and the top page alone if it has no entry up to the second.
+    // From the top page down: no page is read with N = 0, and the top page alone if it has no entry up to the second. (Not compiled into its caller, whose
+    // walk is then the slower: a look-back of the year executes 16,896 instructions at b = 8 so, and 17,528 otherwise, counted as rust/count.sh does.)
+    #[inline(never)]
     pub(crate) fn search(&self) -> Result<PathStart, Unsound>
         ensures { result ≡ searched self.now }
     {
