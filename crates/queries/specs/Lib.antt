@@ -4,3 +4,4 @@ pub mod Own
 pub mod OpenLaws
 pub mod BlockLaws
 pub mod RowLaws
+pub mod UnsoundLaws

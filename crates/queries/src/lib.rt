@@ -3,12 +3,14 @@
 
 mod opened;
 pub mod rows;
+mod unsound;
 
 ghost use Rattle.queries.specs.Opens.{Opens};
 
 use layout::head;
 use layout::refusal::Refusal;
 pub use opened::Opened;
+pub use unsound::Unsound;
 
 // Refusals 2, 3 and 4: else the store as it was opened, with its head.
 #[inline]

@@ -1,15 +1,17 @@
 -- From what the calls in code answer to what a caller by numbers is told.
-use Rattle.std.specs.Prelude.{◌≡◌, refl, Bool, true, false, List, [], ◌∷◌, ℕ, ◌<◌, eqb, ltb, Result, Ok, Err}
+use Rattle.std.specs.Prelude.{◌≡◌, refl, Bool, true, false, cond, List, [], ◌∷◌, ℕ, ◌<◌, eqb, ltb, get_or, None, Some, Result, Ok, Err}
 use Rattle.std.proofs.Common.{sym, ap, ap₂, ◌∙◌, arith, ne_eqb, ltb-true}
 use Rattle.std.proofs.lemmas.List.Edits.{sets}
-use Rattle.base.specs.Branch.{and-true}
+use Rattle.std.specs.Option.{unwrap_or}
+use Rattle.base.specs.Branch.{and-true, by_eqb}
 use Rattle.layout.specs.declared.settings.Settings.{Settings}
 use Rattle.layout.specs.declared.head.Head.{Head}
 use Rattle.layout.specs.declared.refusal.Refusal.{Refusal}
+use Rattle.layout.specs.Sizes.{OPEN}
 use Rattle.layout.specs.RefusalNumbers.{number}
 use Rattle.layout.specs.Settings.{in_limits, Within}
 use Rattle.layout.specs.SettingsLaws.{limits_within, StoreLong}
-use Rattle.calls.specs.Calls.{LookBack, Window, Call, Start, Set, Clear, Update, Advance, Ask, Answer, Done, Shown, Numbers, Refused, Reply, accepted}
+use Rattle.calls.specs.Calls.{View, LookBack, Window, Call, Start, Set, Clear, Update, Advance, Ask, Answer, Done, Shown, Numbers, Refused, Reply, accepted}
 use Rattle.calls.specs.Refusals.{Test}
 use Rattle.calls.specs.LookBack.{look_back}
 use Rattle.calls.specs.Step.{step, tests_of}
@@ -18,9 +20,10 @@ use Rattle.theory.specs.TestLaws.{numbered}
 use Rattle.theory.specs.AnyCall.{every_call}
 use Rattle.changes.specs.Replied.{Replied, answer_of}
 use Rattle.timeslice.specs.declared.Slice.{Slice}
-use Rattle.timeslice.specs.Answer.{Says, view, turned, LookedBack}
+use Rattle.timeslice.specs.Searching.{page_told}
+use Rattle.timeslice.specs.Answer.{slice_of, Says, view, turned, LookedBack}
 use Rattle.window.specs.Windowed.{Windowed, answer_of as window_answer}
-use Rattle.register.specs.Exports.{number_of, six_words, six_after, numbers_after, Exported, ExportedLookBack, ExportedQuery, words_for}
+use Rattle.register.specs.Exports.{number_of, view_words, six_words, six_after, numbers_after, Exported, ExportedLookBack, ExportedQuery, words_for}
 
 -- ---- a start, change or clock move
 pub exported : {r : Reply} {c : Result Head Refusal} {n : ℕ} {words : List ℕ} → Replied r c words → n ≡ number_of (answer_of c) → Exported r n words
@@ -50,6 +53,13 @@ pub told_zero : (ws : List ℕ) (c : Call) → eqb (number_of (step ws c).answer
 told_zero ws c = zero_accepted (step ws c).answer (λ n e. first_above (tests_numbered ws c) ((every_call ws c).refused_first n e))
 
 -- ---- a look-back: refused, or answered with six words
+-- those of its slice are those of the view
+page_word : (n : ℕ) → unwrap_or (page_told n) OPEN ≡ n
+page_word n = by_eqb n OPEN (λ b. unwrap_or (cond b None (Some n)) OPEN ≡ n) (λ e. sym e) (λ e. refl)
+
+slice_words : (v : View) → six_words (slice_of v) ≡ view_words v
+slice_words v = rw (page_word (get_or v.pages 0 OPEN), page_word (get_or v.pages 1 OPEN), page_word (get_or v.pages 2 OPEN))
+
 module _ {ws rows list rows' list' : List ℕ} {t : ℕ} {l : Result Slice Refusal} (b : LookedBack ws t rows list l rows' list') (six : List ℕ) where
   -- what is told of an answer, and the six words after it
   abbrev told_so : Answer → ℕ → List ℕ → Type 0
@@ -62,7 +72,7 @@ module _ {ws rows list rows' list' : List ℕ} {t : ℕ} {l : Result Slice Refus
   refused_so (turned q) = (q, refl)
 
   answered_so : {a : Answer} {s : Slice} → Says a (Ok s) → told_so a 0 (sets six 0 (six_words s))
-  answered_so (view e) = (refl, ap (λ (x : Slice). sets six 0 (six_words x)) e)
+  answered_so (view {v} e) = (refl, ap (λ (x : Slice). sets six 0 (six_words x)) e ∙ ap (λ (w : List ℕ). sets six 0 w) (slice_words v))
 
   pub refused_back : {e : Refusal} → l ≡ Err e → ExportedLookBack ws t rows list six (number e) rows' list' six
   refused_back e = told_back (refused_so (rw e at b.answer))

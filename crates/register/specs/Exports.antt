@@ -1,13 +1,13 @@
 -- WHAT A CALLER IN C OR RUST IS TOLD: 0 for an accepted call, else the refusal's number, and all lent words as the definition leaves them.
-use Rattle.std.specs.Prelude.{◌≡◌, cond, List, [], ◌∷◌, ℕ, get_or}
+use Rattle.std.specs.Prelude.{◌≡◌, cond, List, [], ◌∷◌, ℕ, get_or, None}
+use Rattle.std.specs.Option.{unwrap_or}
 use Rattle.std.proofs.lemmas.List.Edits.{sets}
 use Rattle.layout.specs.declared.settings.Settings.{Settings}
 use Rattle.layout.specs.Sizes.{OPEN, layout_len}
 use Rattle.layout.specs.Settings.{in_limits}
-use Rattle.calls.specs.Calls.{Query, Ask, LookBack, Answer, Done, Shown, Numbers, Refused, Reply}
+use Rattle.calls.specs.Calls.{Query, Ask, LookBack, View, Answer, Done, Shown, Numbers, Refused, Reply}
 use Rattle.calls.specs.Step.{step}
 use Rattle.timeslice.specs.declared.Slice.{Slice}
-use Rattle.timeslice.specs.Answer.{slice_of}
 use Rattle.register.specs.declared.journal.Tally.{Tally}
 use Rattle.register.specs.Journal.{Replayed}
 
@@ -22,15 +22,22 @@ pub record Exported (r : Reply) (n : ℕ) (words : List ℕ) : Type 0 where
   pub number : n ≡ number_of r.answer
   pub store : words ≡ r.store
 
--- rows, pages read, blocks listed, and the page passed on each of the three levels
+-- rows, pages read, blocks listed, and the page passed on each of the three levels, OPEN for none: of a view,
+abbrev pub view_words : View → List ℕ
+view_words v =
+    v.counts.rows ∷ v.counts.pages ∷ v.counts.blocks ∷ get_or v.pages 0 OPEN ∷ get_or v.pages 1 OPEN ∷ get_or v.pages 2 OPEN ∷ []
+
+-- and of what a look-back answers in code
 abbrev pub six_words : Slice → List ℕ
 six_words s =
-    s.counts.rows ∷ s.counts.pages ∷ s.counts.blocks ∷ get_or s.pages 0 OPEN ∷ get_or s.pages 1 OPEN ∷ get_or s.pages 2 OPEN ∷ []
+    s.counts.rows ∷ s.counts.pages ∷ s.counts.blocks ∷ unwrap_or (get_or s.pages 0 None) OPEN ∷ unwrap_or (get_or s.pages 1 None) OPEN
+    ∷ unwrap_or (get_or s.pages 2 None) OPEN
+    ∷ []
 
 -- the six words are written by an answered look-back; a refusal leaves them
 abbrev pub six_after : Answer → List ℕ → List ℕ
 six_after (Done h) six = six
-six_after (Shown v) six = sets six 0 (six_words (slice_of v))
+six_after (Shown v) six = sets six 0 (view_words v)
 six_after (Numbers l) six = six
 six_after (Refused n) six = six
 

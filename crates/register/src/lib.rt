@@ -62,7 +62,7 @@ pub fn register_advance(store: &mut [u32], second: u32) -> u32
     number(changes::advance(store, second))
 }
 
-// The six words of an answered look-back: rows, pages read, blocks listed, and the page passed on each of the three levels.
+// The six words of an answered look-back: rows, pages read, blocks listed, and the page passed on each of the three levels, OPEN for none.
 fn put_six(answer: &mut [u32; 6], slice: Slice)
     ensures { answer.new ≡ sets answer.old 0 (six_words slice) }
 {
@@ -70,9 +70,9 @@ fn put_six(answer: &mut [u32; 6], slice: Slice)
     answer[1] = slice.counts.pages;
     answer[2] = slice.counts.blocks;
     let [page0, page1, page2] = slice.pages;
-    answer[3] = page0;
-    answer[4] = page1;
-    answer[5] = page2;
+    answer[3] = page0.unwrap_or(layout::OPEN);
+    answer[4] = page1.unwrap_or(layout::OPEN);
+    answer[5] = page2.unwrap_or(layout::OPEN);
 }
 
 pub fn register_look_back(

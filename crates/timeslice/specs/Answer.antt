@@ -9,14 +9,15 @@ use Rattle.calls.specs.Refusals.{look_back_own}
 use Rattle.calls.specs.LookBack.{look_back, look_at, seen, view_of, row_words, written}
 use Rattle.queries.specs.Own.{OwnRefusal}
 use Rattle.timeslice.specs.declared.Slice.{Slice}
-use Rattle.timeslice.specs.declared.Unsound.{Unsound}
+use Rattle.queries.specs.declared.unsound.Unsound.{Unsound}
 use Rattle.timeslice.specs.declared.past.Past.{Past}
+use Rattle.timeslice.specs.Searching.{page_told}
 
--- a view's three numbers, and its page on each of the three levels
+-- a view's three numbers, and its page on each of the three levels, of which the view has OPEN for none
 abbrev pub slice_of : View → Slice
 slice_of v = record {
   counts = record { rows = v.counts.rows; pages = v.counts.pages; blocks = v.counts.blocks };
-  pages = get_or v.pages 0 OPEN ∷ get_or v.pages 1 OPEN ∷ get_or v.pages 2 OPEN ∷ [];
+  pages = page_told (get_or v.pages 0 OPEN) ∷ page_told (get_or v.pages 1 OPEN) ∷ page_told (get_or v.pages 2 OPEN) ∷ [];
 }
 
 -- A view is answered, a refusal has its number. No look-back answers with a head.

@@ -1,5 +1,5 @@
 -- The whole look-back's answers: the refusals in their order, and what search and path come to.
-use Rattle.std.specs.Prelude.{◌≡◌, Bool, true, false, cond, ◌||◌, List, ℕ, suc, ◌≤◌, eqb, length, Result, Ok, Err}
+use Rattle.std.specs.Prelude.{◌≡◌, Bool, true, false, cond, ◌||◌, List, ℕ, zero, suc, ◌≤◌, eqb, length, Option, None, Some, Result, Ok, Err}
 use Rattle.std.proofs.Math.Path.{refl}
 use Rattle.std.proofs.Common.{sym, ap, ◌∙◌, arith, lt-ltb, le-ltb}
 use Rattle.layout.specs.declared.refusal.Refusal.{Refusal}
@@ -15,7 +15,7 @@ use Rattle.queries.specs.declared.opened.Opened.{Opened}
 use Rattle.queries.specs.Opens.{Opens}
 use Rattle.queries.specs.OpenLaws.{shut_by, same_words, own_free, own_refused, own_passed}
 use Rattle.queries.specs.RowLaws.{words_length, sets_written}
-use Rattle.timeslice.specs.declared.Unsound.{Unsound}
+use Rattle.queries.specs.declared.unsound.Unsound.{Unsound}
 use Rattle.timeslice.specs.declared.Counts.{Counts}
 use Rattle.timeslice.specs.declared.Slice.{Slice}
 use Rattle.timeslice.specs.declared.past.Past.{Past}
@@ -23,9 +23,9 @@ use Rattle.timeslice.specs.declared.index.PathStart.{PathStart}
 use Rattle.timeslice.specs.Reading.{reader_of}
 use Rattle.timeslice.specs.Told.{WalkTold, over, bad, PathTold, Buffers, Reach}
 use Rattle.timeslice.specs.ToldLaws.{told_found}
-use Rattle.timeslice.specs.PathLaws.{path_short}
+use Rattle.timeslice.specs.PathLaws.{path_short, top_told}
 use Rattle.timeslice.specs.VisitLaws.{short_found}
-use Rattle.timeslice.specs.Searching.{path_start, searched_of, searched}
+use Rattle.timeslice.specs.Searching.{block_told, path_start, searched_of, searched}
 use Rattle.timeslice.specs.SearchLaws.{search_few}
 use Rattle.timeslice.specs.Answer.{slice_of, view, turned, LookedBack, WalkSays, whole, broken, Answers, SliceRefusal}
 
@@ -85,12 +85,23 @@ searched_nowhere : {u : Unsound} (w : Finding ℕ (List Pass)) → searched_of w
 searched_nowhere unsound e = refl
 searched_nowhere (found n ps) e = cc
 
-searched_at : (w : Finding ℕ (List Pass)) {s : PathStart} → searched_of w ≡ Ok s → (ps : List Pass) × (w ≡ found s.block ps) × (s ≡ path_start s.block ps)
+-- the number of the block that starts the path, 0 if there is none
+abbrev pub start_of : Option ℕ → ℕ
+start_of None = 0
+start_of (Some k) = k
+
+start_told : (n : ℕ) → start_of (block_told n) ≡ n
+start_told zero = refl
+start_told (suc n) = refl
+
+searched_at : (w : Finding ℕ (List Pass)) {s : PathStart} → searched_of w ≡ Ok s
+    → (ps : List Pass) × (w ≡ found (start_of s.block) ps) × (s ≡ path_start s.block ps)
 searched_at unsound e = cc
 searched_at (found n ps) {s} e =
-    let i : s ≡ path_start n ps = cc in
-    let j : s.block ≡ n = rw i in
-    (ps, rw j, i ∙ ap (λ (k : ℕ). path_start k ps) (sym j))
+    let i : s ≡ path_start (block_told n) ps = cc in
+    let b : s.block ≡ block_told n = ap (λ (x : PathStart). x.block) i in
+    let j : start_of s.block ≡ n = ap start_of b ∙ start_told n in
+    (ps, rw j, i ∙ ap (λ (x : Option ℕ). path_start x ps) (sym b))
 
 counts_are : {m : Counts} {a b c : ℕ} → m.rows ≡ a → m.pages ≡ b → m.blocks ≡ c → m ≡ record { rows = a; pages = b; blocks = c }
 counts_are e f g = rw (← e, ← f, ← g)
@@ -131,39 +142,47 @@ module _ (p : Past) where
         let q : search p.second p.opened.head.cursor.opened (reader_of p) ≡ unsound = searched_nowhere _ (sym search_says ∙ n) in
         broken (look_is ∙ rw q)
 
-    module _ {s : PathStart} (n : x ≡ Ok s) (b : Buffers p rows list) where
-      pub path_reach : Reach p s.block (none_yet s.read) rows list
+    module _ {s : PathStart} (n : x ≡ Ok s) (b : Buffers p rows list) {k : ℕ} (start : start_of s.block ≡ k) where
+      start_at : (ps : List Pass) × (search p.second p.opened.head.cursor.opened (reader_of p) ≡ found k ps) × (s ≡ path_start s.block ps)
+      start_at = rw start at (searched_at (search p.second p.opened.head.cursor.opened (reader_of p)) (sym search_says ∙ n))
+
+      pub path_reach : Reach p k (none_yet s.read) rows list
       path_reach =
-          let g = search_few p search_says n in
+          let (ps, q, i) = start_at in
+          let g = search_few p q in
           record {
             buffers = b;
             fits = omega arith;
-            known = omega (arith, g.1, p.opened.readable.sound.opened);
-            blocks = omega (arith, g.1, p.opened.readable.sound.opened);
+            known = omega (arith, g, p.opened.readable.sound.opened);
+            blocks = omega (arith, g, p.opened.readable.sound.opened);
           }
 
-      module _ {a : Result Counts Unsound} {rows' list' : List ℕ} (told : PathTold p s.block rows list (none_yet s.read) a rows' list') where
+      module _ {a : Result Counts Unsound} {rows' list' : List ℕ} (told : PathTold p k rows list (none_yet s.read) a rows' list') where
         pub slices_unsound : {u : Unsound} → a ≡ Err u → WalkSays p rows list (Err u) rows' list'
         unfolding look
         slices_unsound e =
-            let (ps, q, i) = searched_at (search p.second p.opened.head.cursor.opened (reader_of p)) (sym search_says ∙ n) in
-            broken (look_is ∙ rw q (told_unsound ps refl (rw e at (told.told (suc s.block) (omega arith)))))
+            let (ps, q, i) = start_at in
+            broken (look_is ∙ rw q (told_unsound ps refl (rw e at (told.told (suc k) (omega arith)))))
 
         pub slices_whole : {m : Counts} → a ≡ Ok m → WalkSays p rows list
             (Ok (record { counts = m; pages = s.pages })) rows' list'
         slices_whole {m} e =
-            let (ps, q, i) = searched_at (search p.second p.opened.head.cursor.opened (reader_of p)) (sym search_says ∙ n) in
-            let (r, l, w, f) = told_found (rw e at (told.told (suc s.block) (omega arith))) in
-            let few = short_found (path_short p.opened.head.settings.block p.second (reader_of p) (suc s.block) s.block) w in
-            let g = search_few p search_says n in
+            let (ps, q, i) = start_at in
+            let (r, l, w, f) = told_found (rw e at (told.told (suc k) (omega arith))) in
+            let few = short_found (path_short p.opened.head.settings.block p.second (reader_of p) (suc k) k) w in
+            let g = search_few p q in
             let given : m.rows ≡ length r = omega (arith, f.given) in
             let listed : m.blocks ≡ length l = omega (arith, f.blocks) in
             let all-rows : length (row_words r) ≤ length rows = omega (arith, words_length r, f.fits, b.long_rows) in
-            let all_blocks : length l ≤ length list = omega (arith, few, g.1, p.opened.readable.sound.opened, b.long_list) in
+            let all_blocks : length l ≤ length list = omega (arith, few, g, p.opened.readable.sound.opened, b.long_list) in
             whole {r = r} {l = l} {ps = ps} (look_is ∙ look_found _ _ _ p.second (reader_of p) q w (omega (arith, f.fits)))
             (slice_is r l ps given f.pages listed i)
             (f.row_words_lem ∙ sets_written (row_words r) rows all-rows)
             (f.list_words ∙ sets_written l list all_blocks)
+
+      -- No block was found: nothing is walked.
+      pub slices_none : k ≡ 0 → WalkSays p rows list (Ok (record { counts = none_yet s.read; pages = s.pages })) rows list
+      slices_none z = slices_whole (top_told z (omega arith)) refl
 
 -- ---- what was seen is answered
 module _ {p : Past} {rows list : List ℕ} {x : Result Slice Unsound} {rows₁ list₁ : List ℕ} (says : WalkSays p rows list x rows₁ list₁) where

@@ -5,7 +5,7 @@ use Rattle.layout.specs.Fields.{closed_word, left_word, child_word}
 use Rattle.layout.specs.Parts.{block_word}
 use Rattle.calls.specs.Calls.{Row}
 use Rattle.calls.specs.Walk.{Reader, Walk, unsound, found, and_then, rows_of, visit}
-use Rattle.timeslice.specs.declared.Unsound.{Unsound}
+use Rattle.queries.specs.declared.unsound.Unsound.{Unsound}
 use Rattle.timeslice.specs.declared.past.Past.{Past}
 use Rattle.timeslice.specs.Reading.{reader_of}
 

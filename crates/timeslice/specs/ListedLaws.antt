@@ -15,7 +15,7 @@ use Rattle.calls.specs.Calls.{Row}
 use Rattle.calls.specs.Walk.{Walk, found, and_then, rows_of, visit}
 use Rattle.queries.specs.BlockLaws.{word_is}
 use Rattle.queries.specs.RowLaws.{sets_append}
-use Rattle.timeslice.specs.declared.Unsound.{Unsound}
+use Rattle.queries.specs.declared.unsound.Unsound.{Unsound}
 use Rattle.timeslice.specs.declared.Counts.{Counts}
 use Rattle.timeslice.specs.declared.past.Past.{Past}
 use Rattle.timeslice.specs.Reading.{reader_of}

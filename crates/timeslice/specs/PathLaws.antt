@@ -11,7 +11,7 @@ use Rattle.layout.specs.Parts.{block_word}
 use Rattle.calls.specs.Walk.{Reader, and_then, rows_of, neighbour, visit, path}
 use Rattle.calls.specs.LookBack.{reader}
 use Rattle.queries.specs.BlockLaws.{word_is}
-use Rattle.timeslice.specs.declared.Unsound.{Unsound}
+use Rattle.queries.specs.declared.unsound.Unsound.{Unsound}
 use Rattle.timeslice.specs.declared.Counts.{Counts}
 use Rattle.timeslice.specs.declared.past.Past.{Past}
 use Rattle.timeslice.specs.declared.walk.PathBlock.{PathBlock}
@@ -88,7 +88,7 @@ module _ {p : Past} {k : ℕ} {rows list : List ℕ} {n : Counts} where
   }
 
   -- It is at 0,
-  top_told : k ≡ 0 → n.rows ≤ p.opened.head.settings.tags → PathTold p k rows list n (Ok n) rows list
+  pub top_told : k ≡ 0 → n.rows ≤ p.opened.head.settings.tags → PathTold p k rows list n (Ok n) rows list
   unfolding path
   top_told e g = enough (λ f q. rw (eq-eqb k 0 e) (told_none p.opened.head.settings.tags rows list n g))
 

@@ -11,17 +11,17 @@ use Rattle.std.specs.Result.{result_ok}
 use native.Mathlib.Omega.{arith}
 use borrow.Author.Tests.{eq-eqb, ne_eqb, eqb-false, le-leb, lt-leb}
 use Rattle.base.specs.Branch.{cond_all, lt?}
-use Rattle.layout.specs.Sizes.{page_len, level_len, dir_start}
+use Rattle.layout.specs.Sizes.{OPEN, page_len, level_len, dir_start}
 use Rattle.layout.specs.SettingsLaws.{layout_least}
 use Rattle.layout.specs.OnWords.{held_fits}
 use Rattle.layout.specs.PartsLaws.{LevelPart, PagePart}
 use Rattle.calls.specs.Walk.{Reader, Finding, unsound, found, Pass, last_up_to, entries, top_level, passing, look_up, descend, search}
 use Rattle.calls.specs.LookBack.{reader}
-use Rattle.timeslice.specs.declared.Unsound.{Unsound}
+use Rattle.queries.specs.declared.unsound.Unsound.{Unsound}
 use Rattle.timeslice.specs.declared.past.Past.{Past}
 use Rattle.timeslice.specs.declared.index.PathStart.{PathStart}
 use Rattle.timeslice.specs.Reading.{reader_of}
-use Rattle.timeslice.specs.Searching.{pages_of, path_start, searched_of, pass_over, entry_of, looked_up, descended, searched, OnPage, OnEntry}
+use Rattle.timeslice.specs.Searching.{page_told, pages_of, block_told, path_start, searched_of, pass_over, entry_of, looked_up, descended, searched, OnPage, OnEntry}
 
 -- ---- a page, from its last entry on
 module _ (t : ℕ) (page : List ℕ) where
@@ -210,26 +210,30 @@ top_entry {p} {l} on {k = k} q s =
     rw e at (page_entry {p = p} {l = l} {e = 0} on q s)
 
 -- ---- one page more is passed
-pages_over : (l e : ℕ) (ps : List Pass) → l < 3 → set (pages_of ps) l e ≡ pages_of (record { level = l; number = e } ∷ ps)
-pages_over zero e ps h = refl
-pages_over (suc zero) e ps h = refl
-pages_over (suc (suc zero)) e ps h = refl
-pages_over (suc (suc (suc l))) e ps h = absurd (omega arith)
+-- (a page has a number below OPEN)
+page_some : (e : ℕ) → e < OPEN → page_told e ≡ Some e
+page_some e h = rw (ne_eqb e OPEN (λ i. omega arith))
+
+pages_over : (l e : ℕ) (ps : List Pass) → l < 3 → e < OPEN → set (pages_of ps) l (Some e) ≡ pages_of (record { level = l; number = e } ∷ ps)
+pages_over zero e ps h k = rw (page_some e k)
+pages_over (suc zero) e ps h k = rw (page_some e k)
+pages_over (suc (suc zero)) e ps h k = rw (page_some e k)
+pages_over (suc (suc (suc l))) e ps h k = absurd (omega arith)
 
 stops : {u : Unsound} (l e : ℕ) (w : Finding ℕ (List Pass)) → searched_of w ≡ Err u → Err u ≡ searched_of (passing (record { level = l; number = e }) w)
 stops l e unsound q = refl
 stops l e (found n ps) q = cc
 
-goes : (l e : ℕ) → l < 3 → (w : Finding ℕ (List Pass)) {s r : PathStart} → searched_of w ≡ Ok s → r ≡ pass_over l e s
+goes : (l e : ℕ) → l < 3 → e < OPEN → (w : Finding ℕ (List Pass)) {s r : PathStart} → searched_of w ≡ Ok s → r ≡ pass_over l e s
     → Ok r ≡ searched_of (passing (record { level = l; number = e }) w)
-goes l e h unsound q m = cc
-goes l e h (found n ps) {s} {r} q m =
-    let i : s ≡ path_start n ps = cc in
-    ap Ok (m ∙ rw (i, add-one (length ps), pages_over l e ps h))
+goes l e h k unsound q m = cc
+goes l e h k (found n ps) {s} {r} q m =
+    let i : s ≡ path_start (block_told n) ps = cc in
+    ap Ok (m ∙ rw (i, add-one (length ps), pages_over l e ps h k))
 
 -- ---- below a level
 module _ (p : Past) (l e : ℕ) where
-  pub descend_ground : l ≡ 0 → {s : PathStart} → s ≡ path_start (e + 1) [] → Ok s ≡ descended p l e
+  pub descend_ground : l ≡ 0 → {s : PathStart} → s ≡ path_start (Some (e + 1)) [] → Ok s ≡ descended p l e
   unfolding descend
   descend_ground z q = rw (z, ← add-one e) (ap Ok q)
 
@@ -256,8 +260,10 @@ module _ (p : Past) (l e : ℕ) where
         pub descend_stop : {u : Unsound} → y ≡ Err u → Err u ≡ descended p l e
         descend_stop n = rw down_is (stops (l - 1) e (downs p (l - 1) (page_len * e + k)) (sym on ∙ n))
 
-        pub descend_on : l < 3 → {s r : PathStart} → y ≡ Ok s → r ≡ pass_over (l - 1) e s → Ok r ≡ descended p l e
-        descend_on h n m = rw down_is (goes (l - 1) e (omega arith) (downs p (l - 1) (page_len * e + k)) (sym on ∙ n) m)
+        pub descend_on : OnEntry p l e → {s r : PathStart} → y ≡ Ok s → r ≡ pass_over (l - 1) e s → Ok r ≡ descended p l e
+        descend_on h n m =
+            let few : e < OPEN = omega (arith, h.entry, entries_most p.opened.head.cursor.opened l (few_opened p)) in
+            rw down_is (goes (l - 1) e (omega (arith, h.three)) few (downs p (l - 1) (page_len * e + k)) (sym on ∙ n) m)
 
 -- ---- few pages are passed, and the block found is one of those opened
 data FewPasses (l opened : ℕ) : Finding ℕ (List Pass) → Type 0 where
@@ -277,12 +283,16 @@ descend_small t opened R zero e h = some {ps = []} (omega arith) h
 descend_small t opened R (suc l) e h = cond_all (FewPasses (suc l) opened) (eqb (look_up t opened R l e) 0) (λ z. none)
     (λ z. passing_small _ (descend_small t opened R l _ (look_entry t opened R l e (eqb-false _ 0 z))))
 
-small_start : {l opened : ℕ} {w : Finding ℕ (List Pass)} → FewPasses l opened w → {s : PathStart} → searched_of w ≡ Ok s → (s.read ≤ l) × (s.block ≤ opened)
+small_start : {l opened : ℕ} {w : Finding ℕ (List Pass)} → FewPasses l opened w → {s : PathStart} → searched_of w ≡ Ok s → s.read ≤ l
 small_start none e = cc
-small_start (some {n} {ps} h g) {s} e = let i : s ≡ path_start n ps = cc in rw i (h, g)
+small_start (some {n} {ps} h g) {s} e = let i : s ≡ path_start (block_told n) ps = cc in rw i h
+
+small_found : {l opened : ℕ} {w : Finding ℕ (List Pass)} → FewPasses l opened w → {n : ℕ} {ps : List Pass} → w ≡ found n ps → n ≤ opened
+small_found none e = cc
+small_found (some {n = m} h g) {n} e = let i : m ≡ n = cc in rw i at g
 
 -- where no page is passed yet, few are read
-pub none_read : {n : ℕ} {s : PathStart} → s ≡ path_start n [] → s.read ≤ 2
+pub none_read : {b : Option ℕ} {s : PathStart} → s ≡ path_start b [] → s.read ≤ 2
 none_read e = rw e (omega arith)
 
 -- the pages read below a level, one for each lower level
@@ -293,7 +303,7 @@ few_read p {l} {e} h q n =
 
 -- ---- the whole search
 module _ (p : Past) where
-  pub search_empty : p.opened.head.cursor.opened ≡ 0 → {s : PathStart} → s ≡ path_start 0 [] → Ok s ≡ searched p
+  pub search_empty : p.opened.head.cursor.opened ≡ 0 → {s : PathStart} → s ≡ path_start None [] → Ok s ≡ searched p
   unfolding search
   search_empty z q = rw (eq-eqb p.opened.head.cursor.opened 0 z) (ap Ok q)
 
@@ -306,8 +316,8 @@ module _ (p : Past) where
     search_is = rw (ne_eqb p.opened.head.cursor.opened 0 z, ← top)
 
     -- the top page has no entry up to then,
-    pub search_before : x ≡ None → {s r : PathStart} → s ≡ path_start 0 [] → r ≡ pass_over l 0 s → Ok r ≡ searched p
-    search_before q e m = rw (search_is, eq-eqb (looks p l 0) 0 (entry_none (looks p l 0) (sym look ∙ q))) (goes l 0 three (found 0 []) (ap Ok (sym e)) m)
+    pub search_before : x ≡ None → {s r : PathStart} → s ≡ path_start None [] → r ≡ pass_over l 0 s → Ok r ≡ searched p
+    search_before q e m = rw (search_is, eq-eqb (looks p l 0) 0 (entry_none (looks p l 0) (sym look ∙ q))) (goes l 0 three (omega arith) (found 0 []) (ap Ok (sym e)) m)
 
     -- or the search goes down from its last.
     module _ {k : ℕ} (q : x ≡ Some k) {y : Result PathStart Unsound} (on : y ≡ descended p l k) where
@@ -321,7 +331,7 @@ module _ (p : Past) where
       search_stop n = rw below_is (stops l 0 (downs p l k) (sym on ∙ n))
 
       pub search_on : {s r : PathStart} → y ≡ Ok s → r ≡ pass_over l 0 s → Ok r ≡ searched p
-      search_on n m = rw below_is (goes l 0 three (downs p l k) (sym on ∙ n) m)
+      search_on n m = rw below_is (goes l 0 three (omega arith) (downs p l k) (sym on ∙ n) m)
 
 -- The search reads at most three pages, and the block that it finds is one of those opened.
 small_more : {l m opened : ℕ} {w : Finding ℕ (List Pass)} → l ≤ m → FewPasses l opened w → FewPasses m opened w
@@ -339,6 +349,6 @@ search_small t opened R =
     let k = look_entry t opened R l 0 (eqb-false _ 0 z) in
     small_more (top_below opened) (passing_small top (descend_small t opened R l (look_up t opened R l 0 - 1) (omega arith)))))
 
-pub search_few : (p : Past) {x : Result PathStart Unsound} → x ≡ searched p → {s : PathStart} → x ≡ Ok s
-    → (s.read ≤ 3) × (s.block ≤ p.opened.head.cursor.opened)
-search_few p q n = small_start (search_small p.second p.opened.head.cursor.opened (reader_of p)) (sym q ∙ n)
+pub search_few : (p : Past) {n : ℕ} {ps : List Pass} → search p.second p.opened.head.cursor.opened (reader_of p) ≡ found n ps
+    → n ≤ p.opened.head.cursor.opened
+search_few p e = small_found (search_small p.second p.opened.head.cursor.opened (reader_of p)) e

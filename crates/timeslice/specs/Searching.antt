@@ -1,27 +1,36 @@
 -- WHAT THE SEARCH ANSWERS: the block that starts the path, the pages read, and on each level the page passed.
-use Rattle.std.specs.Prelude.{List, [], ◌∷◌, ℕ, zero, suc, ◌+◌, ◌*◌, ◌<◌, length, set, Option, None, Some, Result, Ok, Err}
-use Rattle.layout.specs.Sizes.{page_len}
+use Rattle.std.specs.Prelude.{cond, List, [], ◌∷◌, ℕ, zero, suc, ◌+◌, ◌*◌, ◌<◌, eqb, length, set, Option, None, Some, Result, Ok, Err}
+use Rattle.layout.specs.Sizes.{OPEN, page_len}
 use Rattle.calls.specs.Walk.{Finding, unsound, found, Pass, entries, look_up, descend, search}
 use Rattle.calls.specs.LookBack.{passed_on}
-use Rattle.timeslice.specs.declared.Unsound.{Unsound}
+use Rattle.queries.specs.declared.unsound.Unsound.{Unsound}
 use Rattle.timeslice.specs.declared.past.Past.{Past}
 use Rattle.timeslice.specs.declared.index.PathStart.{PathStart}
 use Rattle.timeslice.specs.Reading.{reader_of}
 
--- the page passed on each of the three levels
-abbrev pub pages_of : List Pass → List ℕ
-pages_of ps = passed_on 0 ps ∷ passed_on 1 ps ∷ passed_on 2 ps ∷ []
+-- a page passed, of which the definition has OPEN if there is none
+abbrev pub page_told : ℕ → Option ℕ
+page_told n = cond (eqb n OPEN) None (Some n)
 
-abbrev pub path_start : ℕ → List Pass → PathStart
-path_start n ps = record { block = n; read = length ps; pages = pages_of ps }
+-- the page passed on each of the three levels
+abbrev pub pages_of : List Pass → List (Option ℕ)
+pages_of ps = page_told (passed_on 0 ps) ∷ page_told (passed_on 1 ps) ∷ page_told (passed_on 2 ps) ∷ []
+
+-- the block that starts the path, of which the definition has 0 if there is none
+abbrev pub block_told : ℕ → Option ℕ
+block_told zero = None
+block_told (suc k) = Some (suc k)
+
+abbrev pub path_start : Option ℕ → List Pass → PathStart
+path_start b ps = record { block = b; read = length ps; pages = pages_of ps }
 
 abbrev pub searched_of : Finding ℕ (List Pass) → Result PathStart Unsound
 searched_of unsound = Err (record {})
-searched_of (found n ps) = Ok (path_start n ps)
+searched_of (found n ps) = Ok (path_start (block_told n) ps)
 
 -- one page more, passed before the others
 abbrev pub pass_over : ℕ → ℕ → PathStart → PathStart
-pass_over l e s = record { block = s.block; read = s.read + 1; pages = set s.pages l e }
+pass_over l e s = record { block = s.block; read = s.read + 1; pages = set s.pages l (Some e) }
 
 -- an entry of a page, of which the definition has 1 + its number, or 0 if there is none
 abbrev pub entry_of : ℕ → Option ℕ

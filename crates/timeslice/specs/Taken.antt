@@ -4,7 +4,7 @@ use Rattle.std.proofs.lemmas.List.Edits.{sets}
 use Rattle.layout.specs.Sizes.{row_len}
 use Rattle.calls.specs.Calls.{Row}
 use Rattle.calls.specs.LookBack.{row_words}
-use Rattle.timeslice.specs.declared.Unsound.{Unsound}
+use Rattle.queries.specs.declared.unsound.Unsound.{Unsound}
 use Rattle.timeslice.specs.declared.past.Past.{Past}
 
 -- Rows r are taken behind `given` rows: all of them stand in the buffer and are counted, or with them there are more than d.

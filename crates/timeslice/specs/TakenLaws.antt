@@ -12,7 +12,7 @@ use Rattle.layout.specs.Payload.{payload_in}
 use Rattle.calls.specs.Calls.{Row}
 use Rattle.calls.specs.Walk.{row_of, rows_of}
 use Rattle.queries.specs.RowLaws.{rows_append}
-use Rattle.timeslice.specs.declared.Unsound.{Unsound}
+use Rattle.queries.specs.declared.unsound.Unsound.{Unsound}
 use Rattle.timeslice.specs.Taken.{Takes, all, many}
 
 -- ---- one slot

@@ -9,7 +9,7 @@ use Rattle.layout.specs.Parts.{block_word}
 use Rattle.calls.specs.Calls.{Row}
 use Rattle.calls.specs.Walk.{Walk, unsound, found, rows_of, neighbour, visit, path}
 use Rattle.calls.specs.LookBack.{row_words}
-use Rattle.timeslice.specs.declared.Unsound.{Unsound}
+use Rattle.queries.specs.declared.unsound.Unsound.{Unsound}
 use Rattle.timeslice.specs.declared.Counts.{Counts}
 use Rattle.timeslice.specs.declared.past.Past.{Past}
 use Rattle.timeslice.specs.declared.walk.PathBlock.{PathBlock}

@@ -6,7 +6,7 @@ use Rattle.timeslice.specs.declared.past.Past.{Past}
 use Rattle.calls.specs.Calls.{Row}
 use Rattle.calls.specs.Walk.{Walk, unsound, found, and_then}
 use Rattle.queries.specs.RowLaws.{sets_append, rows_append}
-use Rattle.timeslice.specs.declared.Unsound.{Unsound}
+use Rattle.queries.specs.declared.unsound.Unsound.{Unsound}
 use Rattle.timeslice.specs.declared.Counts.{Counts}
 use Rattle.timeslice.specs.Taken.{Takes, all, many as more}
 use Rattle.timeslice.specs.Told.{Filled, WalkTold, done, over, bad, Buffers}

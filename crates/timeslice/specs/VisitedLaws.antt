@@ -9,7 +9,7 @@ use Rattle.layout.specs.Fields.{closed_word}
 use Rattle.layout.specs.Parts.{block_word}
 use Rattle.calls.specs.Walk.{Reader, rows_of}
 use Rattle.queries.specs.BlockLaws.{word_is}
-use Rattle.timeslice.specs.declared.Unsound.{Unsound}
+use Rattle.queries.specs.declared.unsound.Unsound.{Unsound}
 use Rattle.timeslice.specs.Taken.{Takes, all}
 use Rattle.timeslice.specs.TakenLaws.{taken_more, still_many}
 use Rattle.timeslice.specs.Listed.{rows_at, rows_in}

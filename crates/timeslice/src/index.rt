@@ -4,27 +4,28 @@ ghost use Rattle.layout.specs.Sizes.{page_len};
 ghost use Rattle.calls.specs.Walk.{entries as entries_of, top_level, last_up_to};
 ghost use Rattle.timeslice.specs.Searching.{path_start, pass_over, entry_of, looked_up, descended, searched, OnPage, OnEntry};
 
-use crate::Unsound;
 use crate::past::Past;
 use layout::{PAGE, parts};
+use queries::Unsound;
 
-// The block that starts the path, 0 if there is none; the pages read, and on each level the page passed, OPEN if none.
+// The block that starts the path, if there is one; how many pages are read, and on each level the page passed, if one is.
+// (How many are read stands beside them, counted on the way: that they are as many as the array has follows only since levels fall, which is the theory's.)
 #[derive(Clone, Copy)]
 pub struct PathStart {
-    pub block: u32,
+    pub block: Option<u32>,
     pub read: u32,
-    pub pages: [u32; 3],
+    pub pages: [Option<u32>; 3],
 }
 
 impl PathStart {
-    // At a block, with no page passed.
-    fn at(block: u32) -> PathStart
+    // At a block or at none, with no page passed.
+    fn at(block: Option<u32>) -> PathStart
         ensures { result ≡ path_start block [] }
     {
         PathStart {
             block,
             read: 0,
-            pages: [layout::OPEN; 3],
+            pages: [None; 3],
         }
     }
 
@@ -35,7 +36,7 @@ impl PathStart {
         ensures { result ≡ pass_over l e self }
     {
         let mut pages = self.pages;
-        pages[l as usize] = e;
+        pages[l as usize] = Some(e);
         PathStart {
             read: self.read + 1,
             pages,
@@ -102,7 +103,7 @@ impl Past<'_> {
         ensures { result ≡ descended self.now l e }
     {
         if l == 0 {
-            return Ok(PathStart::at(e + 1));
+            return Ok(PathStart::at(Some(e + 1)));
         }
         let below = l - 1;
         let k = self.look_up(below, e).ok_or(Unsound)?;
@@ -110,17 +111,19 @@ impl Past<'_> {
         Ok(found.passing(below, e))
     }
 
-    // From the top page down: no page is read with N = 0, and the top page alone if it has no entry up to the second.
+    // From the top page down: no page is read with N = 0, and the top page alone if it has no entry up to the second. (Not compiled into its caller, whose
+    // walk is then the slower: a look-back of the year executes 16,896 instructions at b = 8 so, and 17,528 otherwise, counted as rust/count.sh does.)
+    #[inline(never)]
     pub(crate) fn search(&self) -> Result<PathStart, Unsound>
         ensures { result ≡ searched self.now }
     {
         let opened = self.opened.head.cursor.opened;
         if opened == 0 {
-            return Ok(PathStart::at(0));
+            return Ok(PathStart::at(None));
         }
         let top = top_level(opened);
         let Some(k) = self.look_up(top, 0) else {
-            return Ok(PathStart::at(0).passing(top, 0));
+            return Ok(PathStart::at(None).passing(top, 0));
         };
         let found = self.descend(top, k)?;
         Ok(found.passing(top, 0))

@@ -13,11 +13,7 @@ ghost use Rattle.timeslice.specs.Answer.{LookedBack, WalkSays, Answers, SliceRef
 use layout::parts;
 use layout::refusal::Refusal;
 use past::Past;
-
-// A word of the store that the walk reads is unsound: a link, or more rows than tags. (Which one is not told.
-// `window` has an error of its own: each is private and says what is unsound there; one of both would be public in `queries`, which answers none.)
-#[derive(Clone, Copy)]
-pub(crate) struct Unsound;
+use queries::Unsound;
 
 // Rows given, pages read and blocks listed.
 #[derive(Clone, Copy)]
@@ -27,11 +23,11 @@ pub struct Counts {
     pub blocks: u32,
 }
 
-// What an answered look-back says beside its two buffers: the three numbers, and for each level of the index the page passed, OPEN if none.
+// What an answered look-back says beside its two buffers: the three numbers, and for each level of the index the page passed, if one is.
 #[derive(Clone, Copy)]
 pub struct Slice {
     pub counts: Counts,
-    pub pages: [u32; 3],
+    pub pages: [Option<u32>; 3],
 }
 
 impl Past<'_> {
@@ -54,7 +50,7 @@ impl Past<'_> {
         Ok(())
     }
 
-    // Search, then the path from the block found.
+    // Search, then the path from the block found; no path where none is.
     fn look(&self, rows: &mut [u32], list: &mut [u32]) -> Result<Slice, Unsound>
         requires { Buffers self.now rows.old list.old }
         ensures { WalkSays self.now rows.old list.old result rows.new list.new }
@@ -65,12 +61,16 @@ impl Past<'_> {
             pages: found.read,
             blocks: 0,
         };
-        let counts = self.path(found.block, rows, list, none)?;
+        let counts = match found.block {
+            Some(start) => self.path(start, rows, list, none)?,
+            None => none,
+        };
         let pages = found.pages;
         Ok(Slice { counts, pages })
     }
 
-    // The walk's answer; where it is unsound, refusal 12 fills both buffers with zeros.
+    // The walk's answer; where it is unsound, refusal 12 fills both buffers with zeros. (By `match`: `map_err` was tried, and its proof does not close, since
+    // nothing is known afterwards of buffers that its closure filled.)
     fn answer(&self, rows: &mut [u32], list: &mut [u32]) -> Result<Slice, Refusal>
         requires { Buffers self.now rows.old list.old }
         ensures { Answers self.now rows.old list.old result rows.new list.new }

@@ -5,10 +5,9 @@ ghost use Rattle.layout.specs.Sizes.{block_head, record_len};
 ghost use Rattle.calls.specs.Walk.{row_of, rows_of};
 ghost use Rattle.timeslice.specs.Taken.{Takes, RowBuffer};
 
-use crate::Unsound;
 use crate::past::Past;
 use layout::{fields, parts};
-use queries::rows;
+use queries::{Unsound, rows};
 
 impl Past<'_> {
     // The row of slot k, if its record stands then: the rows given with it, and more of them than tags are unsound.

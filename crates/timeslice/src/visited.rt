@@ -5,9 +5,9 @@ ghost use Rattle.timeslice.specs.Reading.{reader_of};
 ghost use Rattle.timeslice.specs.Taken.{Takes, RowBuffer};
 ghost use Rattle.timeslice.specs.Listed.{rows_at, rows_in};
 
-use crate::Unsound;
 use crate::past::Past;
 use layout::{fields, parts};
+use queries::Unsound;
 
 impl Past<'_> {
     // The rows of one listed block, if it closes after the second.

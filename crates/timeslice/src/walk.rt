@@ -1,4 +1,5 @@
-// The walk over the blocks: a visit stays between two numbers and calls itself; the path goes up by 'up' until 0.
+// The walk over the blocks: a visit stays between two numbers and calls itself; the path goes up by 'up' until 0. (The links are words of the store, as
+// document 01 lays them out: a child or left of 0 is none, and an up of 0 is block 0, the root of all, which has no words but the head's.)
 ghost use Rattle.std.specs.Prelude.{◌≡◌};
 ghost use Rattle.layout.specs.Address.{Numbered};
 ghost use Rattle.calls.specs.Walk.{neighbour as neighbour_of};
@@ -6,9 +7,10 @@ ghost use Rattle.timeslice.specs.Reading.{reader_of};
 ghost use Rattle.timeslice.specs.Told.{VisitTold, PathTold, Climbs, Space, Gap, Reach, Under};
 ghost use Rattle.timeslice.specs.Listed.{VisitListed, ListRoom, InsideListed, InsideRoom};
 
+use crate::Counts;
 use crate::past::Past;
-use crate::{Counts, Unsound};
 use layout::{fields, parts};
+use queries::Unsound;
 
 // A path block: its up, its left neighbour, and what is counted with its rows.
 #[derive(Clone, Copy)]
@@ -142,7 +144,8 @@ impl Past<'_> {
         Ok(PathBlock { up, next, counts })
     }
 
-    // The path from a block up to 0: each block listed with its rows, then its left neighbour visited between its up and itself.
+    // The path from a block up to 0: each block listed with its rows, then its left neighbour visited between its up and itself. (By `while`: it follows a
+    // link, counts nothing and has no list to go over. And no `while let`: an up of 0 is a number too, above which the last visit stays.)
     pub(crate) fn path(
         &self,
         number: u32,

@@ -11,7 +11,7 @@ use Rattle.layout.specs.declared.settings.Settings.{Settings}
 use Rattle.calls.specs.Walk.{Reader}
 use Rattle.calls.specs.Range.{PlacedRecord, record_in, is_read, block_records, read_records, stood_in, crossing}
 use Rattle.calls.specs.Window.{unknown_tag}
-use Rattle.window.specs.declared.Unsound.{Unsound}
+use Rattle.queries.specs.declared.unsound.Unsound.{Unsound}
 use Rattle.window.specs.declared.span.Span.{Span}
 use Rattle.window.specs.Noted.{reader_of, records_to, stood, blocks_stood, Noted, Notes, noted, unknown, NotedBlocks, NotesBlocks, NotedTo, NotesTo, NotesAll}
 use Rattle.window.specs.NotedLaws.{unknown_left, noted_none, noted_wider}

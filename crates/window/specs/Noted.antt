@@ -1,5 +1,5 @@
 -- THE LATEST RECORD OF EACH TAG, kept by its place in an array: what the array says of the records met so far, in the order of their places.
-use Rattle.std.specs.Prelude.{◌≡◌, false, true, cond, List, [], ◌∷◌, ◌++◌, ℕ, ◌+◌, ◌*◌, ◌-◌, ◌≤◌, ◌<◌, eqb, leb, length, get_or, refl, Result, Ok, Err, IsErr}
+use Rattle.std.specs.Prelude.{◌≡◌, false, true, cond, List, [], ◌∷◌, ◌++◌, ℕ, ◌+◌, ◌*◌, ◌-◌, ◌≤◌, ◌<◌, eqb, leb, length, get_or, Result, Ok, Err}
 use Rattle.std.proofs.lemmas.List.Edits.{sets}
 use Rattle.base.specs.Lists.{joined, those}
 use Rattle.base.specs.Sums.{All}
@@ -13,17 +13,12 @@ use Rattle.calls.specs.Walk.{Reader}
 use Rattle.calls.specs.LookBack.{row_words, reader}
 use Rattle.calls.specs.Range.{PlacedRecord, record_in, read_records, stood_in, crossing}
 use Rattle.calls.specs.Window.{latest, of_tag, shown_row, unknown_tag}
-use Rattle.window.specs.declared.Unsound.{Unsound}
+use Rattle.queries.specs.declared.unsound.Unsound.{Unsound}
 use Rattle.window.specs.declared.span.Span.{Span}
 
 -- what a window reads, in the words of its definition: the reader that the store is
 abbrev pub reader_of : Span → Reader
 reader_of w = reader w.opened.store.now
-
--- the one way in which a part of a window fails
-pub unsound_is : {A : Type 0} {x : Result A Unsound} → IsErr x → x ≡ Err (record {})
-unsound_is {x = Err e} h = refl
-unsound_is {x = Ok a} h = cc
 
 -- ---- the records met
 -- all records of the blocks before n that are read, and the first k of block n, which is read

@@ -15,7 +15,7 @@ use Rattle.layout.specs.Places.{block_of, slot_of, place_of}
 use Rattle.layout.specs.Spot.{Spot}
 use Rattle.calls.specs.Walk.{Reader}
 use Rattle.calls.specs.Range.{PlacedRecord, record_in, is_read, read_records, stood_in}
-use Rattle.window.specs.declared.Unsound.{Unsound}
+use Rattle.queries.specs.declared.unsound.Unsound.{Unsound}
 use Rattle.window.specs.declared.span.Span.{Span}
 use Rattle.window.specs.Noted.{reader_of, records_to, stood, slots_stood, record_at, noted, unknown, NotedTo, NotesTo, later_place}
 use Rattle.window.specs.NotedLaws.{unknown_last, noted_wider, noted_more, slot_met}

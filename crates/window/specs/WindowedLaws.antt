@@ -21,7 +21,7 @@ use Rattle.queries.specs.declared.opened.Opened.{Opened}
 use Rattle.queries.specs.Opens.{Opens}
 use Rattle.queries.specs.OpenLaws.{shut_by, same_words, own_free, own_refused, own_passed}
 use Rattle.queries.specs.RowLaws.{words_length, sets_written}
-use Rattle.window.specs.declared.Unsound.{Unsound}
+use Rattle.queries.specs.declared.unsound.Unsound.{Unsound}
 use Rattle.window.specs.declared.span.Span.{Span}
 use Rattle.window.specs.Windowed.{Windowed, rows_of, reads_unknown, Answers, answered, unknown, WindowRefusal}
 use Rattle.window.specs.Noted.{reader_of, Noted, NotesAll, AllNamed, row_at, best_rows, Rowed, LongRows}

@@ -8,10 +8,10 @@ ghost use Rattle.layout.specs.Spot.{Spot};
 ghost use Rattle.calls.specs.Range.{record_in, is_read, stood_in};
 ghost use Rattle.window.specs.Noted.{reader_of, later_place, Named, NotedBlocks, NotesBlocks, NotedTo, NotesTo, NotesAll};
 
-use crate::Unsound;
 use crate::span::Span;
 use layout::settings::Settings;
 use layout::{fields, parts, place};
+use queries::Unsound;
 
 // Opened by the last second and not closed by the first. (Here and below the two seconds come by value and no `&Span`: read behind a reference for each
 // slot, they made a window of the year execute 7 % more at b = 8 and 8 % more at b = 64, counted as rust/count.sh does.)

@@ -13,11 +13,8 @@ ghost use Rattle.window.specs.Noted.{LongRows};
 
 use layout::parts;
 use layout::refusal::Refusal;
+use queries::Unsound;
 use span::Span;
-
-// A record that the window reads has a tag of D or more: its store is unsound. (`timeslice` has an error of its own, and says why.)
-#[derive(Clone, Copy)]
-pub(crate) struct Unsound;
 
 impl Span<'_> {
     // One of the two seconds is OPEN.

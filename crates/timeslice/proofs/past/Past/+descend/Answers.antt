@@ -1,6 +1,6 @@
 -- `descend` meets its contract: each way out is a law of the search.
 use Rattle.std.proofs.Common.{◌-◌, arith}
-use Rattle.timeslice.specs.Reading.{unsound_is}
+use Rattle.queries.specs.UnsoundLaws.{unsound_is}
 use Rattle.timeslice.specs.SearchLaws.{few_opened, entries_most, entry_page, page_entry, few_read, none_by, some_by, descend_ground, descend_none, descend_stop, descend_on}
 use Rattle.timeslice.proofs.past.Past.+descend.Goals as goal
 
@@ -48,5 +48,5 @@ passing-requires-clause-few t c =
 
 pub returns : goal.returns
 returns t c =
-    descend_on c.args.self.now _ _ c.if-l-eq0.false c.look_up.ensures (some_by c.ok_or.ensures.ok_part c.in_ok-k.was) c.descend.ensures c.requires.three
+    descend_on c.args.self.now _ _ c.if-l-eq0.false c.look_up.ensures (some_by c.ok_or.ensures.ok_part c.in_ok-k.was) c.descend.ensures c.requires
     c.in_ok-found.was c.passing.ensures

@@ -1,5 +1,5 @@
 -- `climb` meets its contract: an up that is not below is refused before the block is listed.
-use Rattle.timeslice.specs.Reading.{unsound_is}
+use Rattle.queries.specs.UnsoundLaws.{unsound_is}
 use Rattle.timeslice.specs.PathLaws.{climb_above, climb_full, climb_on}
 use Rattle.timeslice.proofs.past.Past.climb.Goals as goal
 

@@ -1,5 +1,5 @@
 -- `path` meets its contract: each way out of a turn of its loop is a law of paths, and so is the turn.
-use Rattle.timeslice.specs.Reading.{unsound_is}
+use Rattle.queries.specs.UnsoundLaws.{unsound_is}
 use Rattle.timeslice.specs.PathLaws.{path_ends, path_stops, visit_room, path_visit_stops, path_turn}
 use Rattle.timeslice.proofs.past.Past.path.Goals as goal
 

@@ -1,6 +1,6 @@
 -- `search` meets its contract: each way out is a law of the search.
 use Rattle.std.proofs.Common.{arith}
-use Rattle.timeslice.specs.Reading.{unsound_is}
+use Rattle.queries.specs.UnsoundLaws.{unsound_is}
 use Rattle.timeslice.specs.SearchLaws.{top_page, top_entry, few_read, search_empty, search_before, search_stop, search_on}
 use Rattle.timeslice.proofs.past.Past.search.Goals as goal
 

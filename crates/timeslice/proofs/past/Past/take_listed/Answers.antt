@@ -1,5 +1,5 @@
 -- `take_listed` meets its contract: one block more is a law, and so is one with too many rows.
-use Rattle.timeslice.specs.Reading.{unsound_is}
+use Rattle.queries.specs.UnsoundLaws.{unsound_is}
 use Rattle.timeslice.specs.VisitedLaws.{all_at, listed_none, listed_more, listed_many}
 use Rattle.timeslice.proofs.past.Past.take_listed.Goals as goal
 

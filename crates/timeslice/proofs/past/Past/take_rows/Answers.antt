@@ -1,5 +1,5 @@
 -- `take_rows` meets its contract: one slot more is a law, and so is one that is too many.
-use Rattle.timeslice.specs.Reading.{unsound_is}
+use Rattle.queries.specs.UnsoundLaws.{unsound_is}
 use Rattle.timeslice.specs.TakenLaws.{taken_none, slot_more, slot_many}
 use Rattle.timeslice.proofs.past.Past.take_rows.Goals as goal
 

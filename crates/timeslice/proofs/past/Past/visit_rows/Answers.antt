@@ -1,5 +1,5 @@
 -- `visit_rows` meets its contract: what is listed is a part of the list, and its rows are the visit's.
-use Rattle.timeslice.specs.Reading.{unsound_is}
+use Rattle.queries.specs.UnsoundLaws.{unsound_is}
 use Rattle.timeslice.specs.ListedLaws.{visit_stops, visit_part}
 use Rattle.timeslice.proofs.past.Past.visit_rows.Goals as goal
 

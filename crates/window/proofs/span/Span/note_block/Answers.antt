@@ -1,6 +1,6 @@
 -- `note_block` meets its contract: its slots are noted one after another, where it is read.
 use Rattle.std.proofs.Common.{arith}
-use Rattle.window.specs.Noted.{unsound_is}
+use Rattle.queries.specs.UnsoundLaws.{unsound_is}
 use Rattle.window.specs.BlockLaws.{block_begin, block_passed, block_noted, block_unknown}
 use Rattle.window.proofs.span.Span.note_block.Goals as goal
 

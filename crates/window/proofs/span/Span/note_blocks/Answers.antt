@@ -1,6 +1,6 @@
 -- `note_blocks` meets its contract: the blocks are noted one after another.
 use Rattle.std.proofs.Common.{arith}
-use Rattle.window.specs.Noted.{unsound_is}
+use Rattle.queries.specs.UnsoundLaws.{unsound_is}
 use Rattle.window.specs.BlockLaws.{notes_noted, blocks_begin, blocks_noted, blocks_unknown}
 use Rattle.window.proofs.span.Span.note_blocks.Goals as goal
 
