@@ -1,33 +1,32 @@
 // The row taker: it is handed a block, a part of the store, and writes the rows that stand at a second behind those already given.
 // (Buffer and number of rows stay two values: the C interface lends the one as words and is answered the other.)
-ghost use Rattle.std.specs.Prelude.{◌≡◌, ◌+◌, ◌*◌, ◌<◌, length};
+ghost use Rattle.std.specs.Prelude.{◌≡◌, ◌+◌, ◌*◌, length};
 ghost use Rattle.layout.specs.Sizes.{block_head, record_len};
 ghost use Rattle.calls.specs.Walk.{row_of, rows_of};
 ghost use Rattle.timeslice.specs.Taken.{Takes, RowBuffer};
 
 use crate::past::Past;
-use layout::{fields, parts};
+use layout::fields;
+use layout::record::Record;
 use queries::{Unsound, rows};
 
 impl Past<'_> {
-    // The row of slot k, if its record stands then: the rows given with it, and more of them than tags are unsound.
+    // The row of a record, if it stands then: the rows given with it, and more of them than tags are unsound.
     // Most records that do not stand have ended, so the end is tested first.
-    fn take_row(&self, block: &[u32], k: u32, rows: &mut [u32], given: u32) -> Result<u32, Unsound>
-        requires whole { length block.now ≡ block_head + record_len * self.now.opened.head.settings.block }
-        requires k_lt_block { k < self.now.opened.head.settings.block }
-        requires row_buffer { RowBuffer self.now given rows.old }
-        ensures { Takes self.now.opened.head.settings.tags rows.old given (row_of self.now.second block.now k) result rows.new }
+    fn take_row(&self, source: &Record, rows: &mut [u32], given: u32) -> Result<u32, Unsound>
+        requires { RowBuffer self.now given rows.old }
+        ensures { Takes self.now.opened.head.settings.tags rows.old given (row_of self.now.second source.now.block.now source.now.slot) result rows.new }
     {
-        if parts::slot_word(block, k, fields::TO) <= self.second {
+        if source.word(fields::TO) <= self.second {
             return Ok(given);
         }
-        if self.second < parts::slot_word(block, k, fields::FROM) {
+        if self.second < source.word(fields::FROM) {
             return Ok(given);
         }
         if self.opened.head.settings.tags <= given {
             return Err(Unsound);
         }
-        rows::put_row(block, k, rows, given);
+        rows::put_row(source, rows, given);
         Ok(given + 1)
     }
 
@@ -45,7 +44,7 @@ impl Past<'_> {
     {
         let mut so_far = given;
         for k in 0..self.opened.head.settings.block {
-            so_far = self.take_row(block, k, rows, so_far)?;
+            so_far = self.take_row(&Record { block, slot: k }, rows, so_far)?;
         }
         Ok(so_far)
     }

@@ -1,7 +1,7 @@
 // The latest record of each tag, by its place. Of the blocks that are read each slot is passed once, in the order of places;
 // a record that stood in the window is noted if it is later than the one noted for its tag.
-ghost use Rattle.std.specs.Prelude.{◌≡◌, ℕ, ◌+◌, ◌*◌, ◌-◌, ◌≤◌, length, replicate};
-ghost use Rattle.layout.specs.Sizes.{block_head, record_len};
+ghost use Rattle.std.specs.Prelude.{◌≡◌, ℕ, ◌+◌, ◌-◌, ◌≤◌, length, replicate};
+ghost use Rattle.layout.specs.Sizes.{block_head};
 ghost use Rattle.layout.specs.Address.{Numbered};
 ghost use Rattle.layout.specs.PartsLaws.{BlockPart};
 ghost use Rattle.layout.specs.Spot.{Spot};
@@ -9,6 +9,7 @@ ghost use Rattle.calls.specs.Range.{record_in, is_read, stood_in};
 ghost use Rattle.window.specs.Noted.{reader_of, later_place, Named, NotedBlocks, NotesBlocks, NotedTo, NotesTo, NotesAll};
 
 use crate::span::Span;
+use layout::record::Record;
 use layout::settings::Settings;
 use layout::{fields, parts, place};
 use queries::Unsound;
@@ -23,13 +24,12 @@ fn is_read(block: &[u32], first: u32, last: u32) -> bool
         && first < parts::block_word(block, fields::CLOSED)
 }
 
-// The record of slot k stood at some second of the window.
-fn stood_in(block: &[u32], k: u32, first: u32, last: u32) -> bool
-    requires { block_head + (record_len * k + record_len) ≤ length block.now }
-    ensures { (s : Settings) (n : ℕ) → result ≡ stood_in first last (record_in s n block.now k) }
+// The record stood at some second of the window.
+fn stood_in(source: &Record, first: u32, last: u32) -> bool
+    ensures { (s : Settings) (n : ℕ) → result ≡ stood_in first last (record_in s n source.now.block.now source.now.slot) }
 {
-    let from = parts::slot_word(block, k, fields::FROM);
-    let to = parts::slot_word(block, k, fields::TO);
+    let from = source.word(fields::FROM);
+    let to = source.word(fields::TO);
     if last < from || to <= first {
         return false;
     }
@@ -47,8 +47,11 @@ impl Span<'_> {
             return place;
         }
         let s = self.opened.head.settings;
-        let block = self.opened.block(place::block_of(s, noted));
-        if parts::slot_word(block, place::slot_of(s, noted), fields::FROM) <= from {
+        let source = Record {
+            block: self.opened.block(place::block_of(s, noted)),
+            slot: place::slot_of(s, noted),
+        };
+        if source.word(fields::FROM) <= from {
             return place;
         }
         noted
@@ -67,14 +70,15 @@ impl Span<'_> {
         requires noted_to { NotedTo self.now n k best.old }
         ensures { NotesTo self.now n (k + 1) result best.new }
     {
-        if !stood_in(block, k, self.first, self.last) {
+        let source = Record { block, slot: k };
+        if !stood_in(&source, self.first, self.last) {
             return Ok(());
         }
-        let tag = parts::slot_word(block, k, fields::TAG);
+        let tag = source.word(fields::TAG);
         if self.opened.head.settings.tags <= tag {
             return Err(Unsound);
         }
-        let from = parts::slot_word(block, k, fields::FROM);
+        let from = source.word(fields::FROM);
         let at = tag as usize;
         best[at] = self.later(
             best[at],

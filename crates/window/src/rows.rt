@@ -5,6 +5,7 @@ ghost use Rattle.window.specs.Noted.{reader_of, row_at, Named, AllNamed, LongRow
 
 use crate::span::Span;
 use layout::place;
+use layout::record::Record;
 use queries::rows;
 
 impl Span<'_> {
@@ -19,9 +20,11 @@ impl Span<'_> {
             return given;
         }
         let s = self.opened.head.settings;
-        let block = self.opened.block(place::block_of(s, place));
-        let k = place::slot_of(s, place);
-        rows::put_row(block, k, rows, given);
+        let source = Record {
+            block: self.opened.block(place::block_of(s, place)),
+            slot: place::slot_of(s, place),
+        };
+        rows::put_row(&source, rows, given);
         given + 1
     }
 

@@ -6,10 +6,10 @@ use Rattle.window.proofs.latest.stood_in.Goals.{then-last-from-via-then-last-fro
 pub returns-then-last-from : goal.returns-then-last-from
 returns-then-last-from c = λ s n.
     elim c.then-last-from.branch [
-      | then-last-from-via-then-last-from w ↦ from_later _ _ _ _ c.slot_word-from.ensures c.slot_word-to.ensures s n w.if-last-from.true
+      | then-last-from-via-then-last-from w ↦ from_later _ _ _ _ c.word-from.ensures c.word-to.ensures s n w.if-last-from.true
       | then-last-from-via-else-last-from+then-to-first w ↦
-          to_before _ _ _ _ c.slot_word-from.ensures c.slot_word-to.ensures s n w.if-last-from.false w.if-to-first.true
+          to_before _ _ _ _ c.word-from.ensures c.word-to.ensures s n w.if-last-from.false w.if-to-first.true
     ]
 
 pub returns : goal.returns
-returns c = λ s n. by_both _ _ _ _ c.slot_word-from.ensures c.slot_word-to.ensures s n c.if-last-from.false c.if-to-first.false
+returns c = λ s n. by_both _ _ _ _ c.word-from.ensures c.word-to.ensures s n c.if-last-from.false c.if-to-first.false

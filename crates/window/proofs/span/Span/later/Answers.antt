@@ -5,12 +5,12 @@ use Rattle.window.proofs.span.Span.later.Goals as goal
 pub returns-then-noted-eq0 : goal.returns-then-noted-eq0
 returns-then-noted-eq0 c = none_yet _ _ _ _ _ c.if-noted-eq0.true
 
-pub returns-then-slot_word-from : goal.returns-then-slot_word-from
-returns-then-slot_word-from c =
-    as_late _ _ _ _ _ c.if-noted-eq0.false c.block_of.ensures c.block-block.ensures.read
-    c.slot_of.ensures c.slot_word.ensures c.if-slot_word-from.true
+pub returns-then-word-from : goal.returns-then-word-from
+returns-then-word-from c =
+    as_late _ _ _ _ _ c.if-noted-eq0.false c.block_of.ensures c.block.ensures.read
+    c.slot_of.ensures c.word.ensures c.if-word-from.true
 
 pub returns : goal.returns
 returns c =
-    still_later _ _ _ _ _ c.if-noted-eq0.false c.block_of.ensures c.block-block.ensures.read
-    c.slot_of.ensures c.slot_word.ensures c.if-slot_word-from.false
+    still_later _ _ _ _ _ c.if-noted-eq0.false c.block_of.ensures c.block.ensures.read
+    c.slot_of.ensures c.word.ensures c.if-word-from.false

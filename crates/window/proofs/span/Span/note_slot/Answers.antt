@@ -13,7 +13,7 @@ returns-then-not-stood_in c =
 pub returns-then-self-tag : goal.returns-then-self-tag
 returns-then-self-tag c =
     slot_unknown c.args.self.now _ _ c.requires.noted_to (block_is c.args.self.now.opened.readable c.requires.block_part)
-    c.stood_in.ensures c.if-not-stood_in.false c.slot_word-tag.ensures c.if-self-tag.true
+    c.stood_in.ensures c.if-not-stood_in.false c.word-tag.ensures c.if-self-tag.true
 
 pub later-requires : goal.later-requires
 later-requires c = noted_named c.requires.noted_to _ (omega (arith, c.args.self.now.opened.readable.sound.within.tags))
@@ -21,5 +21,5 @@ later-requires c = noted_named c.requires.noted_to _ (omega (arith, c.args.self.
 pub returns : goal.returns
 returns c =
     slot_noted c.args.self.now _ _ c.requires.noted_to (block_is c.args.self.now.opened.readable c.requires.block_part)
-    c.stood_in.ensures c.if-not-stood_in.false c.slot_word-tag.ensures c.requires.spot
-    c.if-self-tag.false c.args.self.now.opened.readable.sound.within.tags c.slot_word-from.ensures c.place_of.ensures c.later.ensures
+    c.stood_in.ensures c.if-not-stood_in.false c.word-tag.ensures c.requires.spot
+    c.if-self-tag.false c.args.self.now.opened.readable.sound.within.tags c.word-from.ensures c.place_of.ensures c.later.ensures
