@@ -8,7 +8,7 @@ use Rattle.layout.specs.declared.settings.Settings.{Settings}
 use Rattle.layout.specs.declared.head.Head.{Head}
 use Rattle.layout.specs.declared.refusal.Refusal.{Refusal}
 use Rattle.layout.specs.Sizes.{OPEN}
-use Rattle.layout.specs.RefusalNumbers.{number}
+use Rattle.layout.specs.RefusalNumbers.{number, refused}
 use Rattle.layout.specs.Settings.{in_limits, Within}
 use Rattle.layout.specs.SettingsLaws.{limits_within, StoreLong}
 use Rattle.calls.specs.Calls.{View, LookBack, Window, Call, Start, Set, Clear, Update, Advance, Ask, Answer, Done, Shown, Numbers, Refused, Reply, accepted}
@@ -26,8 +26,12 @@ use Rattle.window.specs.Windowed.{Windowed, answer_of as window_answer}
 use Rattle.register.specs.Exports.{number_of, view_words, six_words, six_after, numbers_after, Exported, ExportedLookBack, ExportedQuery, words_for}
 
 -- ---- a start, change or clock move
-pub exported : {r : Reply} {c : Result Head Refusal} {n : ℕ} {words : List ℕ} → Replied r c words → n ≡ number_of (answer_of c) → Exported r n words
-exported e f = record { number = f ∙ ap number_of e.answer; store = e.store }
+pub exported : {r : Reply} {c : Result Head Refusal} {n : ℕ} {words : List ℕ} → Replied r c words → n ≡ refused c → Exported r n words
+exported {c = c} e f = record { number = f ∙ told c ∙ ap number_of e.answer; store = e.store }
+  where
+    told : (c : Result Head Refusal) → refused c ≡ number_of (answer_of c)
+    told (Ok h) = refl
+    told (Err e) = refl
 
 -- ---- A CALLER IS TOLD 0 EXACTLY IF THE CALL WAS ACCEPTED, on any words: no refusal has the number 0
 tests_numbered : (ws : List ℕ) (c : Call) → numbered (tests_of ws c) ≡ true

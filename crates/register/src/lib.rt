@@ -10,56 +10,44 @@ ghost use Rattle.std.proofs.lemmas.List.Edits.{sets};
 ghost use Rattle.layout.specs.Settings.{settings_of};
 ghost use Rattle.calls.specs.Calls.{Start, Set, Clear, Update, Advance, Window};
 ghost use Rattle.calls.specs.Step.{step};
-ghost use Rattle.changes.specs.Replied.{answer_of};
-ghost use Rattle.register.specs.Exports.{number_of, six_words, Exported, ExportedLookBack, ExportedQuery, words_for, ExportedReplay};
+ghost use Rattle.register.specs.Exports.{six_words, Exported, ExportedLookBack, ExportedQuery, words_for, ExportedReplay};
 ghost use Rattle.register.specs.Rebuilt.{Rebuilt};
 
 pub use applying::{Answer, Call, apply};
 pub use journal::{Tally, replay};
-use layout::head::Head;
-use layout::refusal::Refusal;
+use layout::refusal::number_of;
 use layout::settings::Settings;
 use timeslice::Slice;
-
-// 0 for an accepted call, else the refusal's number.
-fn number(answer: Result<Head, Refusal>) -> u32
-    ensures { result ≡ number_of (answer_of answer) }
-{
-    match answer {
-        Ok(_) => 0,
-        Err(reason) => reason.number(),
-    }
-}
 
 pub fn register_start(store: &mut [u32], block: u32, useful: u32, blocks: u32, tags: u32) -> u32
     ensures { Exported (step store.old (Start (settings_of block useful blocks tags))) result
         store.new }
 {
-    number(changes::start(store, Settings::asked(block, useful, blocks, tags)))
+    number_of(changes::start(store, Settings::asked(block, useful, blocks, tags)))
 }
 
 pub fn register_set(store: &mut [u32], second: u32, tag: u32, reading: u32) -> u32
     ensures { Exported (step store.old (Set second tag reading)) result store.new }
 {
-    number(changes::set(store, second, tag, reading))
+    number_of(changes::set(store, second, tag, reading))
 }
 
 pub fn register_clear(store: &mut [u32], second: u32, tag: u32) -> u32
     ensures { Exported (step store.old (Clear second tag)) result store.new }
 {
-    number(changes::clear(store, second, tag))
+    number_of(changes::clear(store, second, tag))
 }
 
 pub fn register_update(store: &mut [u32], second: u32, tag: u32, reading: u32) -> u32
     ensures { Exported (step store.old (Update second tag reading)) result store.new }
 {
-    number(changes::update(store, second, tag, reading))
+    number_of(changes::update(store, second, tag, reading))
 }
 
 pub fn register_advance(store: &mut [u32], second: u32) -> u32
     ensures { Exported (step store.old (Advance second)) result store.new }
 {
-    number(changes::advance(store, second))
+    number_of(changes::advance(store, second))
 }
 
 // The six words of an answered look-back: rows, pages read, blocks listed, and the page passed on each of the three levels, OPEN for none.
