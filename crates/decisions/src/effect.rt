@@ -1,54 +1,10 @@
-// What a change will do, by the words that it finds: which blocks close, how many records come in, whether a block opens.
-//
-// (That a block's number is one of the layout's, `Numbered`, stays a clause here and in `sound`: it says how a number stands to the settings of `found`,
-// and a type that held both for it would be made at each call and taken apart in the next line.)
-ghost use Rattle.std.specs.Prelude.{◌≡◌, ◌+◌, ◌-◌, ◌≤◌, eqb};
-ghost use Rattle.layout.specs.Address.{Numbered};
-ghost use Rattle.calls.specs.Refusals.{opens, taken_up, remaining, closes, copies};
-ghost use Rattle.decisions.specs.Ready.{words_in};
-ghost use Rattle.decisions.specs.Verdict.{more};
+// Whether a change opens a block, by the words that it finds, and what the acceptor comes to then. (What a block does: block.rt.)
+ghost use Rattle.std.specs.Prelude.{◌≡◌, ◌-◌, ◌≤◌, eqb};
+ghost use Rattle.calls.specs.Refusals.{opens, taken_up};
 ghost use Rattle.decisions.specs.EffectLaws.{few_when_full};
 
 use layout::standing::Standing;
 use queries::Opened;
-
-// How many records of block n stand once one has ended.
-fn remaining(found: &Opened, n: u32) -> u32
-    requires { Numbered found.now.head.settings n }
-    ensures { result ≡ remaining found.now.head (words_in found.now) n }
-{
-    found.standing(n).count().saturating_sub(1)
-}
-
-// Block n closes by a clear of one of its records: it is not the acceptor and fewer than q remain.
-pub(crate) fn closes(found: &Opened, n: u32) -> bool
-    requires { Numbered found.now.head.settings n }
-    ensures { result ≡ closes found.now.head (words_in found.now) n }
-{
-    if n == found.head.cursor.opened {
-        return false;
-    }
-    remaining(found, n) < found.head.settings.useful
-}
-
-// The records that a clear in block n makes move: those that remain, if it closes.
-fn copies(found: &Opened, n: u32) -> u32
-    requires { Numbered found.now.head.settings n }
-    ensures { result ≡ copies found.now.head (words_in found.now) n }
-{
-    if closes(found, n) {
-        return remaining(found, n);
-    }
-    0
-}
-
-// The records that a clear or, with its own besides, a new reading in block n places.
-pub(crate) fn incoming(found: &Opened, n: u32, renews: bool) -> u32
-    requires { Numbered found.now.head.settings n }
-    ensures { result ≡ copies found.now.head (words_in found.now) n + more renews }
-{
-    copies(found, n) + u32::from(renews)
-}
 
 // Incoming records open a block if there are any and the acceptor has no room for all of them.
 pub(crate) fn opens(found: &Opened, incoming: u32) -> bool

@@ -9,6 +9,7 @@ ghost use Rattle.decisions.specs.Verdict.{more};
 ghost use Rattle.decisions.specs.TestLaws.{RefusalOf};
 ghost use Rattle.decisions.specs.SoundLaws.{bad_acceptor, ending_tests};
 
+use crate::block::Block;
 use crate::{effect, own, sound};
 use layout::address::Address;
 use layout::refusal::Refusal;
@@ -26,7 +27,7 @@ pub(crate) struct Entry<'a> {
 }
 
 impl Entry<'_> {
-    // The block of the place.
+    // The number of the place's block.
     fn block(&self) -> u32
         ensures { result ≡ block_of self.now.found.now.head.settings self.now.place }
     {
@@ -84,11 +85,14 @@ impl Entry<'_> {
         if self.place_is_bad() {
             return Err(Refusal::Unsound);
         }
-        let n = self.block();
-        if sound::closing_is_bad(self.found, n) {
+        let block = Block {
+            found: self.found,
+            number: self.block(),
+        };
+        if block.closing_is_bad() {
             return Err(Refusal::Unsound);
         }
-        let incoming = effect::incoming(self.found, n, renews);
+        let incoming = block.incoming(renews);
         if !effect::opens(self.found, incoming) {
             return Ok(());
         }

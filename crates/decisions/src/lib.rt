@@ -2,6 +2,7 @@
 // those that no history left; a place, slot or block is looked at only once it is known to lie in the store.
 #![tactic(auto)]
 
+mod block;
 mod effect;
 mod entry;
 mod own;

@@ -8,5 +8,5 @@ returns-then-not-few_when_full c = sym (bad-acceptor _ _ _ c.requires (sym c.few
 
 pub returns : goal.returns
 returns c =
-    c.block_is_bad.ensures
+    c.is_bad.ensures
     ∙ sym (bad-acceptor _ _ _ c.requires (sym c.few_when_full.ensures ∙ c.if-not-few_when_full.false))

@@ -9,15 +9,15 @@ use Rattle.decisions.proofs.entry.Entry.test_ending.Goals.{After-incoming-incomi
 use Rattle.decisions.proofs.entry.Entry.test_ending.Goals as goal
 
 -- Once its place has passed, it lies in the store;
-lies : (c : goal.After-block-n) → Lies c.args.self.now.found.now.head c.args.self.now.place
+lies : (c : goal.After-block) → Lies c.args.self.now.found.now.head c.args.self.now.place
 lies c = let e = c.args.self.now in place_in _ _ _ e.found.now.readable.sound e.place_of.is e.place_of.some (sym c.place_is_bad.ensures ∙ c.if-place_is_bad.false)
 
 -- and once its block has passed, only the acceptor and a block to open are left.
 ends : (c : After-incoming-incoming) → let o = c.args.self.now.found.now in
-    Ending (more c.args.renews) o.head (words_in o) c.args.self.now.tag c.args.self.now.place c.block-n.result c.incoming-incoming.result
+    Ending (more c.args.renews) o.head (words_in o) c.args.self.now.tag c.args.self.now.place c.block.result c.incoming-incoming.result
 ends c = record {
   is = c.args.self.now.place_of.is;
-  in-block = c.block-n.ensures;
+  in-block = c.block.ensures;
   brings = c.incoming-incoming.ensures;
   place = sym c.place_is_bad.ensures ∙ c.if-place_is_bad.false;
   closing = sym c.closing_is_bad.ensures ∙ c.if-closing_is_bad.false;
@@ -26,22 +26,19 @@ ends c = record {
 pub returns-then-place_is_bad : goal.returns-then-place_is_bad
 returns-then-place_is_bad c = end_place _ _ _ _ c.args.self.now.place_of.is refl (sym c.place_is_bad.ensures ∙ c.if-place_is_bad.true)
 
-pub closing_is_bad-requires : goal.closing_is_bad-requires
-closing_is_bad-requires c = numbered_at (lies c) c.block-n.ensures
+pub invariant_of-block : goal.invariant_of-block
+invariant_of-block c = record { numbered = numbered_at (lies c) c.block.ensures }
 
 pub returns-then-closing_is_bad : goal.returns-then-closing_is_bad
 returns-then-closing_is_bad c =
-    end_closing _ _ _ _ c.args.self.now.place_of.is c.block-n.ensures
+    end_closing _ _ _ _ c.args.self.now.place_of.is c.block.ensures
     (sym c.place_is_bad.ensures ∙ c.if-place_is_bad.false) (sym c.closing_is_bad.ensures ∙ c.if-closing_is_bad.true)
-
-pub incoming-incoming-requires : goal.incoming-incoming-requires
-incoming-incoming-requires c = numbered_at (lies c.before.before) c.block-n.ensures
 
 pub returns-then-not-opens : goal.returns-then-not-opens
 returns-then-not-opens c = end_rests _ _ (ends c.before.before) (sym c.opens.ensures ∙ c.if-not-opens.true)
 
 pub acceptor_is_bad-requires : goal.acceptor_is_bad-requires
-acceptor_is_bad-requires c = lies c.before.before.before.before.before
+acceptor_is_bad-requires c = lies c.before.before.before.before.before.before.before.before
 
 pub returns-then-acceptor_is_bad : goal.returns-then-acceptor_is_bad
 returns-then-acceptor_is_bad c =
