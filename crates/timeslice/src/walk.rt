@@ -1,5 +1,4 @@
-// The walk over the blocks: a visit stays between two numbers and calls itself; the path goes up by 'up' until 0. (The links are words of the store, as
-// document 01 lays them out: a child or left of 0 is none, and an up of 0 is block 0, the root of all, which has no words but the head's.)
+// The walk over the blocks: a visit stays between two numbers and calls itself; the path goes up by 'up' until 0.
 ghost use Rattle.std.specs.Prelude.{◌≡◌};
 ghost use Rattle.layout.specs.Address.{Numbered};
 ghost use Rattle.calls.specs.Walk.{neighbour as neighbour_of};
@@ -24,7 +23,8 @@ pub struct PathBlock {
 // it still holds the same two.)
 impl Past<'_> {
     // A visit of a link: 0, which ends it, or a block strictly between lower and upper. The block is listed, and if it closes after the second, the visit
-    // goes on inside it. It answers how many blocks are listed then. (Compiled into its callers, since most links lead nowhere or to a closed block.)
+    // goes on inside it. It answers how many blocks are listed then. (Compiled into its callers, since most links lead nowhere or to a closed block. A link
+    // is a word of the store, of which 0 is none, as document 01 lays it out.)
     #[cycle(visit)]
     #[inline(always)]
     fn visit(
@@ -99,7 +99,8 @@ impl Past<'_> {
         })
     }
 
-    // The left neighbour of a path block: its own left if it is closed, else its up's last child.
+    // The left neighbour of a path block: its own left if it is closed, else its up's last child. (An up is a word of the store, of which 0 is block 0, as
+    // document 01 lays it out: the root of all, which has no words but the head's.)
     fn neighbour(&self, number: u32) -> u32
         requires { Under self.now number }
         ensures { result ≡ neighbour_of (reader_of self.now) number }

@@ -43,7 +43,8 @@ impl Span<'_> {
         Ok(())
     }
 
-    // The latest record of each tag is noted, then the rows are put; where a record is unsound, refusal 12 fills the buffer with zeros.
+    // The latest record of each tag is noted, then the rows are put; where a record is unsound, refusal 12 fills the buffer with zeros. (By `match`, as a
+    // look-back's `answer`.)
     fn answer(&self, rows: &mut [u32]) -> Result<u32, Refusal>
         requires { LongRows self.now rows.old }
         ensures { Answers self.now rows.old result rows.new }

@@ -9,7 +9,7 @@ use layout::record::Record;
 use queries::rows;
 
 impl Span<'_> {
-    // The row of the record at a place, if there is one, behind the rows given.
+    // The row of the record at a place, if there is one, behind the rows given. (A place of 0 is none, as `later` has it.)
     fn put_row(&self, place: u32, rows: &mut [u32], given: u32) -> u32
         requires named { Named self.now.opened.head.settings place }
         requires long_rows { LongRows self.now rows.old }
