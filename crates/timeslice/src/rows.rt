@@ -1,5 +1,6 @@
 // The row taker: it is handed a block, a part of the store, and writes the rows that stand at a second behind those already given.
-// (Buffer and number of rows stay two values: the C interface lends the one as words and is answered the other.)
+// (Buffer and number of rows stay two values: C lends the one as words and is answered the other; and a struct that held the mutable borrow could come
+// back with another slice, as layout/src/address.rt says.)
 ghost use Rattle.std.specs.Prelude.{◌≡◌, ◌+◌, ◌*◌, length};
 ghost use Rattle.layout.specs.Sizes.{block_head, record_len};
 ghost use Rattle.calls.specs.Walk.{row_of, rows_of};

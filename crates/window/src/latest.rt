@@ -46,12 +46,7 @@ impl Span<'_> {
         if noted == 0 {
             return place;
         }
-        let s = self.opened.head.settings;
-        let source = Record {
-            block: self.opened.block(place::block_of(s, noted)),
-            slot: place::slot_of(s, noted),
-        };
-        if source.word(fields::FROM) <= from {
+        if self.record_at(noted).word(fields::FROM) <= from {
             return place;
         }
         noted

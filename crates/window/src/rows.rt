@@ -1,11 +1,10 @@
 // The rows of the latest records, in ascending tag order.
-// (Buffer and number of rows stay two values: the C interface lends the one as words and is answered the other.)
+// (Buffer and number of rows stay two values: C lends the one as words and is answered the other; and a struct that held the mutable borrow could come
+// back with another slice, as layout/src/address.rt says.)
 ghost use Rattle.std.specs.Prelude.{◌<◌};
 ghost use Rattle.window.specs.Noted.{reader_of, row_at, Named, AllNamed, LongRows, Puts, Rowed};
 
 use crate::span::Span;
-use layout::place;
-use layout::record::Record;
 use queries::rows;
 
 impl Span<'_> {
@@ -19,12 +18,7 @@ impl Span<'_> {
         if place == 0 {
             return given;
         }
-        let s = self.opened.head.settings;
-        let source = Record {
-            block: self.opened.block(place::block_of(s, place)),
-            slot: place::slot_of(s, place),
-        };
-        rows::put_row(&source, rows, given);
+        rows::put_row(&self.record_at(place), rows, given);
         given + 1
     }
 

@@ -8,5 +8,5 @@ returns-then-place-eq0 c = no_row _ _ _ _ _ c.if-place-eq0.true
 
 pub returns : goal.returns
 returns c =
-    rw c.put_row.ensures.words (one_row _ _ _ _ _ c.if-place-eq0.false c.block_of.ensures c.block.ensures.read
-    c.slot_of.ensures refl refl)
+    rw c.put_row.ensures.words
+    (one_row _ _ _ _ _ c.if-place-eq0.false refl c.record_at.ensures.block c.record_at.ensures.slot refl refl)
