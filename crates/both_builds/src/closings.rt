@@ -89,8 +89,8 @@ impl Closings {
         Closings {
             block: words.settings.block,
             opened: word(words.after, OPENED_WORD),
-            closed: closed.count() as u32,
-            strays: strays.count() as u32,
+            closed: u32::try_from(closed.count()).unwrap(),
+            strays: u32::try_from(strays.count()).unwrap(),
             moved,
         }
     }

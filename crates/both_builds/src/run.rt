@@ -25,7 +25,6 @@ pub struct Run<'a> {
 impl<'a> Run<'a> {
     // A whole history: in one of six a few calls on the unstarted store; a start; then the calls.
     pub fn play(&mut self, calls: u32) {
-        self.tally.histories += 1;
         let settings = self.history.settings();
         let length = self.history.length;
         self.pair.store.begin(length);

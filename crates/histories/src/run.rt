@@ -23,7 +23,6 @@ pub struct Run<'a> {
 impl<'a> Run<'a> {
     // A whole history: in one of six a few calls on the unstarted store; a start; then the calls. It ends at what does not agree.
     pub fn play(&mut self, calls: u32) {
-        self.tally.histories += 1;
         self.store.begin(self.history.length);
         if let Err(what) = self.calls(calls) {
             self.notes.note(what);

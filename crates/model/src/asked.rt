@@ -1,6 +1,6 @@
 // What is asked of the register, as it is drawn.
 
-// The kinds of changes: an update is a new reading, an advance a clock move.
+// The kinds of changes: an update is a new reading, an advance a clock move. (An `Action` has them too: a kind is drawn before what it takes.)
 #[derive(Clone, Copy, PartialEq, Eq)]
 pub enum Kind {
     Set,

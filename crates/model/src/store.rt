@@ -1,4 +1,6 @@
 // The store that is lent to the register, with some words behind the lent ones, which are compared too; and the store as it should be.
+ghost use Rattle.std.specs.Prelude.{◌≡◌, ◌≤◌, length};
+
 use crate::buffer;
 use crate::settings::Settings;
 use crate::words::marks;
@@ -23,11 +25,12 @@ pub struct Store {
     honest: Words,
 }
 
-// Words are copied as far as both go: `copy_from_slice` would ask that they are as long.
-fn copy(to: &mut [u32], from: &[u32]) {
-    for (word, source) in to.iter_mut().zip(from) {
-        *word = *source;
-    }
+// These words in the place of those. (Those of a store have room: `copy_from_slice` would ask that both are as long.)
+pub fn copy(to: &mut Words, from: &[u32])
+    ensures { length from.now ≤ 16384 → to.new.items ≡ from.now }
+{
+    to.clear();
+    let _ = to.try_extend_from_slice(from);
 }
 
 impl Store {
@@ -42,15 +45,11 @@ impl Store {
     // A store of marks, of which a history lends so many words.
     pub fn begin(&mut self, length: usize) {
         self.words.clear();
-        self.kept.clear();
-        self.honest.clear();
-        for mark in marks().take(length.saturating_add(SPARE)) {
-            if !self.words.is_full() && !self.kept.is_full() && !self.honest.is_full() {
-                self.words.push(mark);
-                self.kept.push(mark);
-                self.honest.push(mark);
-            }
-        }
+        let _ = self
+            .words
+            .extend(marks().take(length.saturating_add(SPARE)));
+        self.keep();
+        self.end();
     }
 
     pub fn words(&self) -> &[u32] {
@@ -79,7 +78,7 @@ impl Store {
 
     // The store is kept as it is.
     pub fn keep(&mut self) {
-        copy(self.kept.as_mut_slice(), self.words.as_slice());
+        copy(&mut self.kept, self.words.as_slice());
     }
 
     // A start leaves zeros after the settings, and keeps what lies beyond the layout.
@@ -97,12 +96,12 @@ impl Store {
 
     // The history has ended: its words are honest.
     pub fn end(&mut self) {
-        copy(self.honest.as_mut_slice(), self.words.as_slice());
+        copy(&mut self.honest, self.words.as_slice());
     }
 
     // The words are those that the history left.
     pub fn restore(&mut self) {
-        copy(self.words.as_mut_slice(), self.honest.as_slice());
+        copy(&mut self.words, self.honest.as_slice());
     }
 }
 
