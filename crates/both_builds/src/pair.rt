@@ -8,7 +8,7 @@ use model::settings::Settings;
 use model::store::{Store, Words, copy};
 use std::fmt;
 
-// What differs, with the number that is printed.
+// What differs, with the number that is printed. (The numbers of `Finding` in `model` are other ones.)
 #[derive(Clone, Copy)]
 pub enum Difference {
     Answers = 1,

@@ -12,7 +12,7 @@ use model::refusal::{Called, Refusal, numbered};
 use model::settings::Settings;
 use model::{draw, due};
 
-// A history that runs, with what all of them share.
+// A history that runs, with what all of them share. (`histories` has another, and says why.)
 #[derive(Drop)]
 pub struct Run<'a> {
     pub history: History,

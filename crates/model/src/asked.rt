@@ -18,7 +18,7 @@ pub enum Call {
     Window,
 }
 
-// What a change does.
+// What a change does. (Three programs match it for calls of their own: a trait of such calls would have an impl as long as each match.)
 #[derive(Clone, Copy)]
 pub enum Action {
     Set { tag: u32, reading: u32 },

@@ -1,4 +1,6 @@
 // What a query left of what it was lent, which were marks: a buffer of rows, and the words of its answer. The first of these tells how many rows.
+ghost use Rattle.std.specs.Prelude.{◌≡◌, slice_index_or};
+
 use crate::buffer::{Buffer, is_left, is_marked_from, marked};
 use crate::refusal::Refusal;
 use crate::settings::ROW_WORDS;
@@ -17,7 +19,9 @@ impl<const N: usize> Found<N> {
         }
     }
 
-    pub fn row_count(&self) -> u32 {
+    pub fn row_count(&self) -> u32
+        ensures { result ≡ slice_index_or self.now.answer 0 0 }
+    {
         self.answer.first().copied().unwrap_or(0)
     }
 

@@ -1,8 +1,8 @@
 // The store that is lent to the register, with some words behind the lent ones, which are compared too; and the store as it should be.
-ghost use Rattle.std.specs.Prelude.{◌≡◌, ◌≤◌, length};
+ghost use Rattle.std.specs.Prelude.{◌≡◌, ◌≤◌, length, slice_index_or};
 
 use crate::buffer;
-use crate::settings::Settings;
+use crate::settings::{FILL_WORD, OPENED_WORD, Settings};
 use crate::words::marks;
 use arrayvec::ArrayVec;
 
@@ -106,7 +106,9 @@ impl Store {
 }
 
 // A word of a store, 0 behind its end.
-pub fn word(words: &[u32], place: usize) -> u32 {
+pub fn word(words: &[u32], place: usize) -> u32
+    ensures { result ≡ slice_index_or words.now place 0 }
+{
     words.get(place).copied().unwrap_or(0)
 }
 
@@ -118,4 +120,16 @@ pub fn settings(words: &[u32]) -> Settings {
         word(words, 3),
         word(words, 4),
     )
+}
+
+// By a store's own head, "records placed, 0 for N = 0 and else (N − 1) × b + fill".
+pub fn placed(words: &[u32]) -> u32
+    ensures none { slice_index_or words.now 5 0 ≡ 0 → result ≡ 0 }
+{
+    match word(words, OPENED_WORD) {
+        0 => 0,
+        n => settings(words)
+            .before(n)
+            .saturating_add(word(words, FILL_WORD)),
+    }
 }
