@@ -181,7 +181,7 @@ pub(crate) fn agree(rt: &impl System, name: &str) -> io::Result<Option<bool>> {
         return Ok(Some(true));
     };
     print!(rt; "{name}: its windows differ at line {line}\nexpected: ")?;
-    case::show_line(case::open(rt, name, "windows"), line);
+    case::show_line(rt, case::open(rt, name, "windows"), line)?;
     println!(rt; "given:    {given}")?;
     Ok(Some(false))
 }
