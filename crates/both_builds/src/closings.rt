@@ -1,18 +1,8 @@
 // What an accepted change closed and moved, found from the words of the first build's store before the change and after it: neither build is
 // asked.
 use model::asked::Kind;
-use model::settings::{DIRECTORY, Settings};
-use model::store::{Store, settings, word};
-
-// Words of a head: N, and the records in block N.
-pub const OPENED_WORD: usize = 5;
-
-const FILL_WORD: usize = 7;
-
-// A block's closed word, and the first of its two words of standing bits.
-const CLOSED_WORD: usize = 1;
-
-pub const BITS_WORD: usize = 6;
+use model::settings::{BITS_WORD, CLOSED_WORD, DIRECTORY, OPENED_WORD, Settings};
+use model::store::{Store, placed, settings, word};
 
 #[derive(Clone, Copy)]
 pub struct Closings {
@@ -33,16 +23,6 @@ struct Words<'a> {
     before: &'a [u32],
     after: &'a [u32],
     settings: Settings,
-}
-
-// "records placed, 0 for N = 0 and else (N − 1) × b + fill", by the head of a store.
-fn placed(words: &[u32]) -> u32 {
-    match word(words, OPENED_WORD) {
-        0 => 0,
-        n => settings(words)
-            .before(n)
-            .saturating_add(word(words, FILL_WORD)),
-    }
 }
 
 impl<'a> Words<'a> {
@@ -89,8 +69,8 @@ impl Closings {
         Closings {
             block: words.settings.block,
             opened: word(words.after, OPENED_WORD),
-            closed: closed.count() as u32,
-            strays: strays.count() as u32,
+            closed: u32::try_from(closed.count()).unwrap(),
+            strays: u32::try_from(strays.count()).unwrap(),
             moved,
         }
     }

@@ -1,9 +1,10 @@
 // Changes on damaged stores: both builds answer and leave the same.
-use crate::closings::{BITS_WORD, Closings, OPENED_WORD};
+use crate::closings::Closings;
 use crate::run::Run;
 use model::asked::Kind;
 use model::damage;
 use model::random::Random;
+use model::settings::{BITS_WORD, OPENED_WORD};
 use model::store::word;
 
 // A round: the store is damaged, the same words in both; then changes.

@@ -17,54 +17,58 @@ use model::draw;
 use model::history::History;
 use model::notes::Notes;
 use model::out::print;
+use model::played::{Plays, play_all};
 use model::random::Random;
 use model::settings::{LISTED, Settings};
 use pair::Pair;
 use run::Run;
 use tally::Tally;
 
-// Histories, and long ones, in which the index gets its third level.
-const HISTORIES: u32 = 4000;
+// Histories, and long ones.
+const HISTORIES: u16 = 4000;
 
-const LONG_HISTORIES: u32 = 16;
+const LONG_HISTORIES: u16 = 16;
 
-const LONG_CALLS: u32 = 2000;
-
-// The settings and the number of calls of a history. One of two that are not long has listed settings, the other any. The more records a block
-// has, the more calls it takes to fill and close some.
-fn planned(number: u32, random: &mut Random) -> (Settings, u32) {
-    if HISTORIES <= number {
-        return (Settings::listed(LISTED), LONG_CALLS);
-    }
-    let settings = if number % 2 == 0 {
-        Settings::listed(number / 2 % LISTED)
-    } else {
-        draw::any_settings(random)
-    };
-    (
-        settings,
-        settings.block.saturating_mul(16).saturating_add(100),
-    )
+// What all histories share.
+#[derive(Drop)]
+struct Shared {
+    pair: Pair,
+    tally: Tally,
 }
 
-fn main() {
-    let mut pair = Pair::new();
-    let mut tally = Tally::default();
-    let mut notes = Notes::default();
-    for number in 0..HISTORIES + LONG_HISTORIES {
-        let mut random = Random::seeded(number);
-        let (settings, calls) = planned(number, &mut random);
-        notes.begin_history(number);
+impl Plays for Shared {
+    // One of two histories has listed settings, the other any. The more records a block has, the more calls it takes to fill and close some.
+    fn planned(number: u32, random: &mut Random) -> (Settings, u32) {
+        let settings = if number % 2 == 0 {
+            Settings::listed(number / 2 % LISTED)
+        } else {
+            draw::any_settings(random)
+        };
+        let calls = settings.block.saturating_mul(16).saturating_add(100);
+        (settings, calls)
+    }
+
+    fn play(&mut self, history: History, calls: u32, notes: &mut Notes) {
         let mut run = Run {
-            history: History::new(random, settings),
+            history,
             burst: Burst::default(),
-            pair: &mut pair,
-            tally: &mut tally,
-            notes: &mut notes,
+            pair: &mut self.pair,
+            tally: &mut self.tally,
+            notes,
         };
         run.play(calls);
         run.rounds();
     }
-    print(tally);
+}
+
+fn main() {
+    let mut shared = Shared {
+        pair: Pair::new(),
+        tally: Tally::default(),
+    };
+    let mut notes = Notes::default();
+    let played = play_all(&mut shared, &mut notes, HISTORIES, LONG_HISTORIES);
+    print(format_args!("histories {played}\n"));
+    print(shared.tally);
     print(format_args!("mismatches {}\n", notes.mismatches));
 }

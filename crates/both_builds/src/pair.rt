@@ -5,10 +5,10 @@ use model::asked::Change;
 use model::buffer::lent;
 use model::finding::unless;
 use model::settings::Settings;
-use model::store::{Store, Words};
+use model::store::{Store, Words, copy};
 use std::fmt;
 
-// What differs, with the number that is printed.
+// What differs, with the number that is printed. (The numbers of `Finding` in `model` are other ones.)
 #[derive(Clone, Copy)]
 pub enum Difference {
     Answers = 1,
@@ -40,10 +40,9 @@ impl Pair {
         }
     }
 
-    // The other build's store becomes the first build's. (There is room, since both may have as many words.)
+    // The other build's store becomes the first build's.
     pub fn level(&mut self) {
-        self.other.clear();
-        let _ = self.other.try_extend_from_slice(self.store.words());
+        copy(&mut self.other, self.store.words());
     }
 
     // Both builds answered and left the same: of the stores all words that are lent, and those behind them.

@@ -12,7 +12,7 @@ use model::refusal::{Called, Refusal, numbered};
 use model::settings::Settings;
 use model::{draw, due};
 
-// A history that runs, with what all of them share.
+// A history that runs, with what all of them share. (`histories` has another, and says why.)
 #[derive(Drop)]
 pub struct Run<'a> {
     pub history: History,
@@ -25,7 +25,6 @@ pub struct Run<'a> {
 impl<'a> Run<'a> {
     // A whole history: in one of six a few calls on the unstarted store; a start; then the calls.
     pub fn play(&mut self, calls: u32) {
-        self.tally.histories += 1;
         let settings = self.history.settings();
         let length = self.history.length;
         self.pair.store.begin(length);

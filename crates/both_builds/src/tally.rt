@@ -32,7 +32,6 @@ struct OfBlock {
 
 #[derive(Clone, Copy, Default)]
 pub struct Tally {
-    pub histories: Count,
     pub honest: Counts,
     pub damaged: Counts,
     // b 2 to 3, and from 4, 8, 16 and 32 on.
@@ -129,7 +128,6 @@ impl<'a> fmt::Display for Told<'a> {
 
 impl fmt::Display for Tally {
     fn fmt<W: fmt::Write>(&self, f: &mut fmt::Formatter<W>) -> fmt::Result {
-        writeln!(f, "histories {}", self.histories)?;
         write!(f, "{}", Told(&self.honest, "", ""))?;
         writeln!(f, "most blocks opened {}", self.honest.most_opened)?;
         for (of, b) in self

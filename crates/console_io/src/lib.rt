@@ -21,13 +21,13 @@ use sink::Sink;
 use std::io::Read;
 
 // The store, and buffers that are large enough for every settings.
-const STORE: usize = 16000;
+pub const STORE: usize = 16000;
 
-const LIST: usize = 4096;
+pub const LIST: usize = 4096;
 
 const TAGS: usize = 4096;
 
-const ROWS: usize = print::ROW_LEN * TAGS;
+pub const ROWS: usize = print::ROW_LEN * TAGS;
 
 // A run so far.
 #[derive(Drop)]

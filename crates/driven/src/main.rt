@@ -8,6 +8,7 @@ mod shown;
 use layout::head::Head;
 use layout::refusal::Refusal;
 use layout::settings::Settings;
+use model::asked::Action;
 use model::out::print;
 use script::{Call, SCRIPT, Step, WORDS};
 use shown::{Shown, Told};
@@ -19,18 +20,14 @@ fn made(lent: &mut [u32], call: Call) -> Result<Head, Refusal> {
             lent,
             Settings::asked(block, 2, blocks, 16),
         ),
-        Call::Set {
-            second,
-            tag,
-            reading,
-        } => changes::set(lent, second, tag, reading),
-        Call::Clear { second, tag } => changes::clear(lent, second, tag),
-        Call::Update {
-            second,
-            tag,
-            reading,
-        } => changes::update(lent, second, tag, reading),
-        Call::Advance { second } => changes::advance(lent, second),
+        Call::Change(second, Action::Set { tag, reading }) => {
+            changes::set(lent, second, tag, reading)
+        }
+        Call::Change(second, Action::Clear { tag }) => changes::clear(lent, second, tag),
+        Call::Change(second, Action::Update { tag, reading }) => {
+            changes::update(lent, second, tag, reading)
+        }
+        Call::Change(second, Action::Advance) => changes::advance(lent, second),
     }
 }
 

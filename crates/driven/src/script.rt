@@ -1,6 +1,8 @@
 // What is done, in order.
-use Call::{Advance, Clear, Set, Start, Update};
+use Call::{Change, Start};
 use Step::{Lent, Made, Shown, Title, Written};
+use model::asked::Action;
+use model::asked::Action::{Advance, Clear, Set, Update};
 
 // The store of the printed settings: b = 4, q = 2, 8 blocks, 16 tags.
 pub const WORDS: usize = 4624;
@@ -12,10 +14,8 @@ const SHORT: usize = 4623;
 #[derive(Clone, Copy)]
 pub enum Call {
     Start { block: u32, blocks: u32 },
-    Set { second: u32, tag: u32, reading: u32 },
-    Clear { second: u32, tag: u32 },
-    Update { second: u32, tag: u32, reading: u32 },
-    Advance { second: u32 },
+    // A second, and what is done at it.
+    Change(u32, Action),
 }
 
 #[derive(Clone, Copy)]
@@ -55,7 +55,7 @@ pub const SCRIPT: [Step; 54] = [
         },
     ),
     Title("short stores"),
-    Lent(SHORT, Advance { second: 1 }),
+    Lent(SHORT, Change(1, Advance)),
     Lent(
         15,
         Start {
@@ -63,143 +63,124 @@ pub const SCRIPT: [Step; 54] = [
             blocks: 8,
         },
     ),
-    Lent(
-        15,
-        Set {
-            second: 1,
-            tag: 1,
-            reading: 1,
-        },
-    ),
+    Lent(15, Change(1, Set { tag: 1, reading: 1 })),
     Shown,
     Title("printed changes"),
-    Made(Set {
-        second: 1,
-        tag: 1,
-        reading: 25,
-    }),
-    Made(Set {
-        second: 2,
-        tag: 2,
-        reading: 4294967271,
-    }),
-    Made(Set {
-        second: 3,
-        tag: 3,
-        reading: 5,
-    }),
-    Made(Set {
-        second: 4,
-        tag: 4,
-        reading: 140,
-    }),
-    Made(Set {
-        second: 5,
-        tag: 5,
-        reading: 0,
-    }),
-    Made(Clear { second: 6, tag: 2 }),
-    Made(Clear { second: 7, tag: 3 }),
-    Made(Clear { second: 8, tag: 1 }),
+    Made(Change(
+        1,
+        Set {
+            tag: 1,
+            reading: 25,
+        },
+    )),
+    Made(Change(
+        2,
+        Set {
+            tag: 2,
+            reading: 4294967271,
+        },
+    )),
+    Made(Change(3, Set { tag: 3, reading: 5 })),
+    Made(Change(
+        4,
+        Set {
+            tag: 4,
+            reading: 140,
+        },
+    )),
+    Made(Change(5, Set { tag: 5, reading: 0 })),
+    Made(Change(6, Clear { tag: 2 })),
+    Made(Change(7, Clear { tag: 3 })),
+    Made(Change(8, Clear { tag: 1 })),
     Shown,
     Title("P9"),
-    Made(Set {
-        second: 8,
-        tag: 6,
-        reading: 1,
-    }),
+    Made(Change(8, Set { tag: 6, reading: 1 })),
     Title("P10"),
-    Made(Set {
-        second: 7,
-        tag: 7,
-        reading: 1,
-    }),
+    Made(Change(7, Set { tag: 7, reading: 1 })),
     Title("P11"),
-    Made(Set {
-        second: 8,
-        tag: 15,
-        reading: 1,
-    }),
-    Made(Set {
-        second: 8,
-        tag: 16,
-        reading: 1,
-    }),
+    Made(Change(
+        8,
+        Set {
+            tag: 15,
+            reading: 1,
+        },
+    )),
+    Made(Change(
+        8,
+        Set {
+            tag: 16,
+            reading: 1,
+        },
+    )),
     Title("refusals"),
-    Made(Advance {
-        second: layout::OPEN,
-    }),
-    Made(Advance { second: 7 }),
-    Made(Set {
-        second: 9,
-        tag: 4,
-        reading: 1,
-    }),
-    Made(Clear { second: 9, tag: 2 }),
-    Made(Update {
-        second: 9,
-        tag: 2,
-        reading: 1,
-    }),
+    Made(Change(layout::OPEN, Advance)),
+    Made(Change(7, Advance)),
+    Made(Change(9, Set { tag: 4, reading: 1 })),
+    Made(Change(9, Clear { tag: 2 })),
+    Made(Change(9, Update { tag: 2, reading: 1 })),
     Title("new reading, clock"),
-    Made(Update {
-        second: 9,
-        tag: 4,
-        reading: 4294967295,
-    }),
-    Made(Advance { second: 12 }),
+    Made(Change(
+        9,
+        Update {
+            tag: 4,
+            reading: 4294967295,
+        },
+    )),
+    Made(Change(12, Advance)),
     Shown,
     Title("damaged"),
     Written {
         place: 4389,
         word: 99,
     },
-    Made(Clear { second: 13, tag: 5 }),
-    Made(Update {
-        second: 13,
-        tag: 5,
-        reading: 1,
-    }),
+    Made(Change(13, Clear { tag: 5 })),
+    Made(Change(13, Update { tag: 5, reading: 1 })),
     Written {
         place: 0,
         word: 7000,
     },
-    Made(Advance { second: 13 }),
+    Made(Change(13, Advance)),
     Shown,
     Title("out of blocks"),
     Made(Start {
         block: 4,
         blocks: 1,
     }),
-    Made(Set {
-        second: 1,
-        tag: 0,
-        reading: 10,
-    }),
-    Made(Set {
-        second: 1,
-        tag: 1,
-        reading: 11,
-    }),
-    Made(Set {
-        second: 1,
-        tag: 2,
-        reading: 12,
-    }),
-    Made(Set {
-        second: 1,
-        tag: 3,
-        reading: 13,
-    }),
-    Made(Set {
-        second: 1,
-        tag: 4,
-        reading: 14,
-    }),
-    Made(Update {
-        second: 1,
-        tag: 3,
-        reading: 7,
-    }),
+    Made(Change(
+        1,
+        Set {
+            tag: 0,
+            reading: 10,
+        },
+    )),
+    Made(Change(
+        1,
+        Set {
+            tag: 1,
+            reading: 11,
+        },
+    )),
+    Made(Change(
+        1,
+        Set {
+            tag: 2,
+            reading: 12,
+        },
+    )),
+    Made(Change(
+        1,
+        Set {
+            tag: 3,
+            reading: 13,
+        },
+    )),
+    Made(Change(
+        1,
+        Set {
+            tag: 4,
+            reading: 14,
+        },
+    )),
+    Made(Change(1, Update { tag: 3, reading: 7 })),
     Shown,
 ];

@@ -27,9 +27,9 @@ pub fn look_back(store: &Store, a: LookBack) -> (Called, Looked) {
     let got = register::register_look_back(
         store.lent(a.length),
         a.second,
-        lent(&mut looked.rows, a.row_words),
+        lent(&mut looked.found.rows, a.row_words),
         lent(&mut looked.list, a.list_words),
-        &mut looked.answer,
+        &mut looked.found.answer,
     );
     (numbered(got), looked)
 }

@@ -11,46 +11,52 @@ mod tally;
 use model::history::History;
 use model::notes::Notes;
 use model::out::print;
+use model::played::{Plays, play_all};
 use model::random::Random;
 use model::settings::{LISTED, Settings};
 use model::store::Store;
 use run::Run;
 use tally::Tally;
 
-// Histories of 200 calls, and long ones, in which the index gets its third level.
-const HISTORIES: u32 = 5000;
+// Histories of 200 calls, and long ones.
+const HISTORIES: u16 = 5000;
 
 const CALLS: u32 = 200;
 
-const LONG_HISTORIES: u32 = 24;
+const LONG_HISTORIES: u16 = 24;
 
-const LONG_CALLS: u32 = 2000;
-
-// The settings and the number of calls of a history.
-fn planned(number: u32) -> (Settings, u32) {
-    if number < HISTORIES {
-        (Settings::listed(number % LISTED), CALLS)
-    } else {
-        (Settings::listed(LISTED), LONG_CALLS)
-    }
+// What all histories share.
+#[derive(Drop)]
+struct Shared {
+    store: Store,
+    tally: Tally,
 }
 
-fn main() {
-    let mut store = Store::new();
-    let mut tally = Tally::default();
-    let mut notes = Notes::default();
-    for number in 0..HISTORIES + LONG_HISTORIES {
-        let (settings, calls) = planned(number);
-        notes.begin_history(number);
+impl Plays for Shared {
+    fn planned(number: u32, _random: &mut Random) -> (Settings, u32) {
+        (Settings::listed(number % LISTED), CALLS)
+    }
+
+    fn play(&mut self, history: History, calls: u32, notes: &mut Notes) {
         let mut run = Run {
-            history: History::new(Random::seeded(number), settings),
-            store: &mut store,
-            tally: &mut tally,
-            notes: &mut notes,
+            history,
+            store: &mut self.store,
+            tally: &mut self.tally,
+            notes,
         };
         run.play(calls);
         run.rounds();
     }
-    print(tally);
+}
+
+fn main() {
+    let mut shared = Shared {
+        store: Store::new(),
+        tally: Tally::default(),
+    };
+    let mut notes = Notes::default();
+    let played = play_all(&mut shared, &mut notes, HISTORIES, LONG_HISTORIES);
+    print(format_args!("histories {played}\n"));
+    print(shared.tally);
     print(format_args!("mismatches {}\n", notes.mismatches));
 }

@@ -11,7 +11,8 @@ use model::settings::Settings;
 use model::store::{AFTER_SETTINGS, Store};
 use model::{draw, due};
 
-// A history that runs, with what all of them share.
+// A history that runs, with what all of them share. (`both_builds` has another: its changes come in bursts, are made on two stores, and go on
+// after what does not agree. A struct for both would hold the parts that differ as parameters, and no method would be the same.)
 #[derive(Drop)]
 pub struct Run<'a> {
     pub history: History,
@@ -23,7 +24,6 @@ pub struct Run<'a> {
 impl<'a> Run<'a> {
     // A whole history: in one of six a few calls on the unstarted store; a start; then the calls. It ends at what does not agree.
     pub fn play(&mut self, calls: u32) {
-        self.tally.histories += 1;
         self.store.begin(self.history.length);
         if let Err(what) = self.calls(calls) {
             self.notes.note(what);
@@ -124,6 +124,7 @@ impl<'a> Run<'a> {
         Ok(())
     }
 
+    // (Beside a look-back: a trait of both would name each of these calls twice more, in two impls, to spare this function.)
     fn window(&mut self) -> Result<(), Finding> {
         let a = draw::window(&mut self.history);
         let due = due::window(&self.history, a);

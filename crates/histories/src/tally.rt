@@ -5,7 +5,6 @@ use std::fmt;
 
 #[derive(Clone, Copy, Default)]
 pub struct Tally {
-    pub histories: Count,
     // The answers of the calls of histories.
     pub answers: Answers,
     // Accepted starts, changes and clock moves.
@@ -50,7 +49,6 @@ impl<'a> fmt::Display for Windows<'a> {
 
 impl fmt::Display for Tally {
     fn fmt<W: fmt::Write>(&self, f: &mut fmt::Formatter<W>) -> fmt::Result {
-        writeln!(f, "histories {}", self.histories)?;
         writeln!(f, "calls {}", self.answers.all())?;
         writeln!(
             f,

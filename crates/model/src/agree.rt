@@ -2,8 +2,8 @@
 use crate::book::{Block, Book};
 use crate::finding::{Finding, unless};
 use crate::history::History;
-use crate::settings::{BLOCK_HEAD, DIRECTORY, RECORD_WORDS};
-use crate::store::{Store, word};
+use crate::settings::{BITS_WORD, BLOCK_HEAD, DIRECTORY, RECORD_WORDS};
+use crate::store::{Store, placed, word};
 use crate::words::OPEN;
 
 // The mark of a head.
@@ -24,13 +24,10 @@ fn head(words: &[u32], history: &History) -> bool {
     words.starts_with(due.as_slice()) && words.iter().take(16).skip(10).all(|word| *word == 0)
 }
 
-// "records placed, 0 for N = 0 and else (N − 1) × b + fill", are the book's; and records placed × (b − q + 1) ≤ b × accepted sets and new
-// readings.
-fn placed(words: &[u32], history: &History) -> Result<(), Finding> {
+// The records placed are the book's; and records placed × (b − q + 1) ≤ b × accepted sets and new readings.
+fn placed_agree(words: &[u32], history: &History) -> Result<(), Finding> {
     let s = history.settings();
-    let n = word(words, 5);
-    let fill = if n == 0 { 0 } else { word(words, 7) };
-    let count = s.before(n).saturating_add(fill);
+    let count = placed(words);
     unless(count == history.book.placed(), Finding::Placed)?;
     let share = s.block.saturating_sub(s.useful).saturating_add(1);
     let sets = history.log.sets() as u64;
@@ -52,7 +49,7 @@ fn block_agrees(words: &[u32], n: u32, block: Block, book: &Book) -> Result<(), 
     };
     let seconds = [block.opened, block.closed.unwrap_or(OPEN)];
     unless(own.starts_with(seconds.as_slice()), Finding::Seconds)?;
-    let mut bits = u64::from(own[6]) | u64::from(own[7]) << 32;
+    let mut bits = u64::from(own[BITS_WORD]) | u64::from(own[BITS_WORD + 1]) << 32;
     let places = book.settings.places(n);
     for (slot, place) in records.chunks_exact(RECORD_WORDS).zip(places) {
         unless(slot_agrees(slot, bits & 1 == 1, place, book), Finding::Slot)?;
@@ -85,7 +82,7 @@ fn directory(words: &[u32], book: &Book) -> bool {
 pub fn store_agrees(store: &Store, history: &History) -> Result<(), Finding> {
     let words = store.words();
     unless(head(words, history), Finding::Head)?;
-    placed(words, history)?;
+    placed_agree(words, history)?;
     blocks_agree(words, &history.book)?;
     unless(directory(words, &history.book), Finding::Directory)
 }

@@ -1,6 +1,6 @@
 // What is asked of the register, as it is drawn.
 
-// The kinds of changes: an update is a new reading, an advance a clock move.
+// The kinds of changes: an update is a new reading, an advance a clock move. (An `Action` has them too: a kind is drawn before what it takes.)
 #[derive(Clone, Copy, PartialEq, Eq)]
 pub enum Kind {
     Set,
@@ -18,7 +18,7 @@ pub enum Call {
     Window,
 }
 
-// What a change does.
+// What a change does. (Three programs match it for calls of their own: a trait of such calls would have an impl as long as each match.)
 #[derive(Clone, Copy)]
 pub enum Action {
     Set { tag: u32, reading: u32 },

@@ -2,6 +2,7 @@
 // and records in order. Before a block opens, the one before it has b records: so a record's place, counted from 1 through all blocks, tells
 // its block and its slot. A tag has one standing record at most.
 use crate::asked::Action;
+use crate::refusal::{Answer, Refusal};
 use crate::settings::Settings;
 use arrayvec::ArrayVec;
 use std::ops::Range;
@@ -50,31 +51,28 @@ impl Book {
 
     // How many blocks there are.
     pub fn opened(&self) -> u32 {
-        self.blocks.len() as u32
+        u32::try_from(self.blocks.len()).unwrap()
     }
 
     // How many records were placed.
     pub fn placed(&self) -> u32 {
-        self.tags.len() as u32
+        u32::try_from(self.tags.len()).unwrap()
     }
 
     // How many blocks were opened by t, and how many of them are open at t.
     pub fn opened_by(&self, t: u32) -> u32 {
-        self.blocks.iter().filter(|block| block.opened <= t).count() as u32
+        let opened = self.blocks.iter().filter(|block| block.opened <= t);
+        u32::try_from(opened.count()).unwrap()
     }
 
     pub fn open_at(&self, t: u32) -> u32 {
-        self.blocks
-            .iter()
-            .filter(|block| block.is_open_at(t))
-            .count() as u32
+        let open = self.blocks.iter().filter(|block| block.is_open_at(t));
+        u32::try_from(open.count()).unwrap()
     }
 
     pub fn closed(&self) -> u32 {
-        self.blocks
-            .iter()
-            .filter(|block| block.closed.is_some())
-            .count() as u32
+        let closed = self.blocks.iter().filter(|block| block.closed.is_some());
+        u32::try_from(closed.count()).unwrap()
     }
 
     // For each tag the place of its standing record.
@@ -214,9 +212,9 @@ impl Book {
 
     // A set, a clear, or a new reading: "the clear, then the set". It is made in the book, and taken back where the book would then have more
     // than B blocks. (The former book is copied onto the stack, which does not fail.)
-    pub fn takes(&mut self, second: u32, action: Action) -> bool {
+    pub fn take(&mut self, second: u32, action: Action) -> Answer {
         let Ok(former) = self.clone() else {
-            return false;
+            return Err(Refusal::OutOfBlocks);
         };
         match action {
             Action::Set { tag, .. } => self.set(tag, second),
@@ -227,10 +225,10 @@ impl Book {
             }
             Action::Advance => (),
         }
-        let fits = self.opened() <= self.settings.blocks;
-        if !fits {
-            *self = former;
+        if self.opened() <= self.settings.blocks {
+            return Ok(());
         }
-        fits
+        *self = former;
+        Err(Refusal::OutOfBlocks)
     }
 }

@@ -1,4 +1,5 @@
 // What a look-back or a window is lent for rows or for its list: marks, so that it is seen what was written.
+use crate::refusal::Refusal;
 use crate::words::marks;
 
 // Longer than any part that is lent of it.
@@ -28,7 +29,12 @@ pub fn is_marked_from(words: &[u32], from: usize) -> bool {
         .all(|(word, mark)| *word == mark)
 }
 
-// The first words are zeros, and all others marks.
-pub fn is_marked_after_zeros(words: &[u32], zeros: usize) -> bool {
+// A refused query leaves all of a buffer; but one that finds the store unsound fills what it was lent of it with zeros.
+pub(crate) fn is_left(words: &[u32], refusal: Refusal, length: usize) -> bool {
+    let zeros = if refusal == Refusal::Unsound {
+        length
+    } else {
+        0
+    };
     words.iter().take(zeros).all(|word| *word == 0) && is_marked_from(words, zeros)
 }

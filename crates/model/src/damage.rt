@@ -2,14 +2,9 @@
 use crate::asked::{Action, Change, Kind};
 use crate::history::History;
 use crate::random::Random;
-use crate::settings::{BLOCK_HEAD, DIRECTORY, RECORD_WORDS, Settings};
+use crate::settings::{CLOCK_WORD, DIRECTORY, OPENED_WORD, Settings};
 use crate::store::{Store, word};
 use crate::words::OPEN;
-
-// Words of the head: N and the clock.
-const BLOCKS_WORD: usize = 5;
-
-const CLOCK_WORD: usize = 6;
 
 // What a history left: its settings, N and the clock.
 #[derive(Clone, Copy)]
@@ -77,7 +72,7 @@ pub fn damage(store: &mut Store, history: &mut History) {
     store.restore();
     let left = Left {
         settings: history.settings(),
-        blocks: word(store.words(), BLOCKS_WORD),
+        blocks: word(store.words(), OPENED_WORD),
         clock: word(store.words(), CLOCK_WORD),
     };
     let random = &mut history.random;

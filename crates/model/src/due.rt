@@ -23,15 +23,10 @@ fn on_store(history: &History, length: usize, second: u32) -> Answer {
     unless(second != OPEN, Refusal::TimeOpen)
 }
 
-// Refusals for the tag of a change whose second is fine. All changes of the log are made by then, so that the state is the state so far.
-fn of_tag(history: &History, tag: u32, second: u32, sets: bool) -> Answer {
+// Whether a tag stands, if it is one of the register's. All changes of the log are made by this second, so that the state is the state so far.
+fn stands(history: &History, tag: u32, second: u32) -> Result<bool, Refusal> {
     unless(tag < history.settings().tags, Refusal::Tag)?;
-    let stands = history.log.state_at(tag, second).is_some();
-    if sets {
-        unless(!stands, Refusal::Standing)
-    } else {
-        unless(stands, Refusal::NotStanding)
-    }
+    Ok(history.log.state_at(tag, second).is_some())
 }
 
 // Where nothing else is due, the book takes the change, unless the blocks run out. A clock move has no tag, and leaves the book.
@@ -39,13 +34,13 @@ pub fn change(history: &mut History, c: Change) -> Answer {
     on_store(history, c.length, c.second)?;
     unless(history.clock <= c.second, Refusal::Early)?;
     match c.action {
-        Action::Set { tag, .. } => of_tag(history, tag, c.second, true)?,
-        Action::Clear { tag } | Action::Update { tag, .. } => of_tag(
-            history, tag, c.second, false,
-        )?,
+        Action::Set { tag, .. } => unless(!stands(history, tag, c.second)?, Refusal::Standing)?,
+        Action::Clear { tag } | Action::Update { tag, .. } => {
+            unless(stands(history, tag, c.second)?, Refusal::NotStanding)?
+        }
         Action::Advance => return Ok(()),
     }
-    unless(history.book.takes(c.second, c.action), Refusal::OutOfBlocks)
+    history.book.take(c.second, c.action)
 }
 
 pub fn look_back(history: &History, a: LookBack) -> Answer {

@@ -1,20 +1,21 @@
 // What a look-back left, against the log and the book.
 use crate::asked::LookBack;
 use crate::book::Book;
-use crate::buffer::{Buffer, is_marked_after_zeros, is_marked_from, marked};
+use crate::buffer::{Buffer, is_left, is_marked_from, marked};
 use crate::finding::{Finding, unless};
+use crate::found::Found;
 use crate::history::History;
 use crate::log::Row;
-use crate::refusal::{Answer, Refusal};
+use crate::refusal::Answer;
 use crate::settings::ROW_WORDS;
 use crate::words::OPEN;
 
-// The two buffers, and the answer's six words: how many rows, pages and blocks of the list, and the page of each of the three levels.
+// What a query leaves, and the list's buffer. The answer's six words: how many rows, pages and blocks of the list, and the page of each of the
+// three levels.
 #[derive(Clone, Copy)]
 pub struct Looked {
-    pub rows: Buffer,
+    pub found: Found<6>,
     pub list: Buffer,
-    pub answer: [u32; 6],
 }
 
 // For each level, from the lowest, how many blocks lie under one page of the level below, and of it.
@@ -23,18 +24,17 @@ const LEVELS: [(u32, u32); 3] = [(0, 16), (16, 256), (256, 4096)];
 impl Looked {
     pub fn marked() -> Looked {
         Looked {
-            rows: marked(),
+            found: Found::marked(),
             list: marked(),
-            answer: marked(),
         }
     }
 
     pub fn row_count(&self) -> u32 {
-        self.answer[0]
+        self.found.row_count()
     }
 
     pub fn list_count(&self) -> u32 {
-        self.answer[2]
+        self.found.answer[2]
     }
 
     // The blocks that the list names.
@@ -44,30 +44,22 @@ impl Looked {
     }
 
     // What is left by a look-back, on any words: an answered one has left the words after its rows and its list, which fit the lent words. A
-    // refused one has left all; but one that finds the store unsound fills both buffers with zeros.
+    // refused one has left what refused queries leave.
     pub fn left(&self, a: LookBack, answer: Answer) -> Result<(), Finding> {
         match answer {
-            Ok(()) => self.rest_left(a),
-            Err(Refusal::Unsound) => self.all_left(a.row_words, a.list_words),
-            Err(_) => self.all_left(0, 0),
+            Ok(()) => {
+                let named = self.list_count() as usize;
+                let fits = self.found.row_words() <= a.row_words && named <= a.list_words;
+                unless(fits, Finding::Counts)?;
+                let left = self.found.is_left_after() && is_marked_from(&self.list, named);
+                unless(left, Finding::After)
+            }
+            Err(refusal) => {
+                let left = self.found.is_left_by(refusal, a.row_words)
+                    && is_left(&self.list, refusal, a.list_words);
+                unless(left, Finding::Touched)
+            }
         }
-    }
-
-    fn rest_left(&self, a: LookBack) -> Result<(), Finding> {
-        let used = ROW_WORDS * self.row_count() as usize;
-        let named = self.list_count() as usize;
-        unless(
-            used <= a.row_words && named <= a.list_words,
-            Finding::Counts,
-        )?;
-        let left = is_marked_from(&self.rows, used) && is_marked_from(&self.list, named);
-        unless(left, Finding::After)
-    }
-
-    fn all_left(&self, row_zeros: usize, list_zeros: usize) -> Result<(), Finding> {
-        let buffers = is_marked_after_zeros(&self.rows, row_zeros)
-            && is_marked_after_zeros(&self.list, list_zeros);
-        unless(buffers && is_marked_from(&self.answer, 0), Finding::Touched)
     }
 
     // All that a look-back comes to after an honest history: what is left, and of an answer rows, list, limits and pages.
@@ -85,6 +77,7 @@ impl Looked {
     // How many rows are this one.
     fn rows_like(&self, row: Row) -> usize {
         let rows = self
+            .found
             .rows
             .chunks_exact(ROW_WORDS)
             .take(self.row_count() as usize);
@@ -125,9 +118,9 @@ impl Looked {
     fn pages_agree(&self, book: &Book, t: u32) -> Result<(), Finding> {
         let due = LEVELS.map(|(fewer, blocks)| page_due(book, t, fewer, blocks));
         let pages = due.map(|page| page.unwrap_or(OPEN));
-        unless(self.answer[3..] == pages[..], Finding::Pages)?;
+        unless(self.found.answer[3..] == pages[..], Finding::Pages)?;
         let passed = due.iter().filter(|page| page.is_some()).count();
-        unless(self.answer[1] as usize == passed, Finding::Counts)
+        unless(self.found.answer[1] as usize == passed, Finding::Counts)
     }
 }
 

@@ -1,5 +1,5 @@
 // The program's own random numbers: xorshift on 64 bits, so that each run draws the same.
-ghost use Rattle.std.specs.Prelude.{◌≤◌};
+ghost use Rattle.std.specs.Prelude.{◌≤◌, ◌-◌};
 
 #[derive(Clone, Copy)]
 pub struct Random(u64);
@@ -25,12 +25,12 @@ impl Random {
 
     // Any word.
     pub fn word(&mut self) -> u32 {
-        (self.advance() >> 16 & 0xffff_ffff) as u32
+        u32::try_from(self.advance() >> 16 & 0xffff_ffff).unwrap()
     }
 
     // A number below n; 0 for n = 0.
     pub fn below(&mut self, n: u32) -> u32
-        ensures { result ≤ n }
+        ensures { result ≤ n - 1 }
     {
         let word = self.word();
         if n == 0 { 0 } else { word % n }

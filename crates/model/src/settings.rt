@@ -16,11 +16,23 @@ pub struct Settings {
 // How many settings are listed for short histories; the next one is for the long histories.
 pub const LISTED: u32 = 10;
 
+// Of a head: N, the clock, and how many records block N has.
+pub const OPENED_WORD: usize = 5;
+
+pub const CLOCK_WORD: usize = 6;
+
+pub const FILL_WORD: usize = 7;
+
 // Where the directory starts: after the head's 16 words and the index's 4,096 + 256 + 16. The blocks follow it.
 pub const DIRECTORY: usize = 4384;
 
 // A block's own words, then its records: each a tag, a reading, from, to and since.
 pub const BLOCK_HEAD: usize = 8;
+
+// Of a block's own words: its closing second, and the first of its two words of standing bits.
+pub const CLOSED_WORD: usize = 1;
+
+pub const BITS_WORD: usize = 6;
 
 pub const RECORD_WORDS: usize = 5;
 
@@ -38,7 +50,7 @@ impl Settings {
     }
 
     // Most of the listed settings are small, so that blocks fill, close and run out within a history; some have enough blocks for two and for
-    // three levels of the index.
+    // three levels of the index. (A table would be a constant, which may not call `new`.)
     pub fn listed(i: u32) -> Settings {
         match i {
             0 => Settings::new(2, 1, 6, 4),

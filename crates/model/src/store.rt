@@ -1,6 +1,8 @@
 // The store that is lent to the register, with some words behind the lent ones, which are compared too; and the store as it should be.
+ghost use Rattle.std.specs.Prelude.{◌≡◌, ◌≤◌, length, slice_index_or};
+
 use crate::buffer;
-use crate::settings::Settings;
+use crate::settings::{FILL_WORD, OPENED_WORD, Settings};
 use crate::words::marks;
 use arrayvec::ArrayVec;
 
@@ -23,11 +25,12 @@ pub struct Store {
     honest: Words,
 }
 
-// Words are copied as far as both go: `copy_from_slice` would ask that they are as long.
-fn copy(to: &mut [u32], from: &[u32]) {
-    for (word, source) in to.iter_mut().zip(from) {
-        *word = *source;
-    }
+// These words in the place of those. (Those of a store have room: `copy_from_slice` would ask that both are as long.)
+pub fn copy(to: &mut Words, from: &[u32])
+    ensures { length from.now ≤ 16384 → to.new.items ≡ from.now }
+{
+    to.clear();
+    let _ = to.try_extend_from_slice(from);
 }
 
 impl Store {
@@ -42,15 +45,11 @@ impl Store {
     // A store of marks, of which a history lends so many words.
     pub fn begin(&mut self, length: usize) {
         self.words.clear();
-        self.kept.clear();
-        self.honest.clear();
-        for mark in marks().take(length.saturating_add(SPARE)) {
-            if !self.words.is_full() && !self.kept.is_full() && !self.honest.is_full() {
-                self.words.push(mark);
-                self.kept.push(mark);
-                self.honest.push(mark);
-            }
-        }
+        let _ = self
+            .words
+            .extend(marks().take(length.saturating_add(SPARE)));
+        self.keep();
+        self.end();
     }
 
     pub fn words(&self) -> &[u32] {
@@ -79,7 +78,7 @@ impl Store {
 
     // The store is kept as it is.
     pub fn keep(&mut self) {
-        copy(self.kept.as_mut_slice(), self.words.as_slice());
+        copy(&mut self.kept, self.words.as_slice());
     }
 
     // A start leaves zeros after the settings, and keeps what lies beyond the layout.
@@ -97,17 +96,19 @@ impl Store {
 
     // The history has ended: its words are honest.
     pub fn end(&mut self) {
-        copy(self.honest.as_mut_slice(), self.words.as_slice());
+        copy(&mut self.honest, self.words.as_slice());
     }
 
     // The words are those that the history left.
     pub fn restore(&mut self) {
-        copy(self.words.as_mut_slice(), self.honest.as_slice());
+        copy(&mut self.words, self.honest.as_slice());
     }
 }
 
 // A word of a store, 0 behind its end.
-pub fn word(words: &[u32], place: usize) -> u32 {
+pub fn word(words: &[u32], place: usize) -> u32
+    ensures { result ≡ slice_index_or words.now place 0 }
+{
     words.get(place).copied().unwrap_or(0)
 }
 
@@ -119,4 +120,16 @@ pub fn settings(words: &[u32]) -> Settings {
         word(words, 3),
         word(words, 4),
     )
+}
+
+// By a store's own head, "records placed, 0 for N = 0 and else (N − 1) × b + fill".
+pub fn placed(words: &[u32]) -> u32
+    ensures none { slice_index_or words.now 5 0 ≡ 0 → result ≡ 0 }
+{
+    match word(words, OPENED_WORD) {
+        0 => 0,
+        n => settings(words)
+            .before(n)
+            .saturating_add(word(words, FILL_WORD)),
+    }
 }

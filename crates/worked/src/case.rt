@@ -19,8 +19,8 @@ pub(crate) fn open(rt: &impl System, name: &str, ending: &str) -> Option<File> {
     fs::open(rt, path.as_str()).ok()
 }
 
-// One line of a file, counted from 1.
-pub(crate) fn show_line(file: Option<File>, number: u64) {
+// One line of a file, counted from 1: its bytes as they are, which may be no text.
+pub(crate) fn show_line(rt: &impl System, file: Option<File>, number: u64) -> std::io::Result<()> {
     if let Some(file) = file {
         let mut at: u64 = 1;
         for byte in file.bytes().map_while(|byte| byte.ok()) {
@@ -29,25 +29,26 @@ pub(crate) fn show_line(file: Option<File>, number: u64) {
             }
             if byte == b'\n' {
                 if at == number {
-                    return;
+                    return Ok(());
                 }
                 at = next_number(at);
             }
         }
     }
-    io::write_all(STDOUT, b"(no such line)\n");
+    println!(rt; "(no such line)")
 }
 
 // The console runs once more, and of its lines that one alone is written.
-fn show_printed(input: Option<File>, number: u64) {
+fn show_printed(rt: &impl System, input: Option<File>, number: u64) -> std::io::Result<()> {
     let pick = Sink::Pick(STDOUT, number);
     let left = match input {
         Some(mut input) => console_io::run_over(&mut input, pick),
         None => pick,
     };
     if let Sink::Pick(_, 1..) = left {
-        io::write_all(STDOUT, b"(no such line)\n");
+        println!(rt; "(no such line)")?;
     }
+    Ok(())
 }
 
 // Whether the case of this name agrees; if not, it says so.
@@ -65,8 +66,8 @@ pub(crate) fn agrees(rt: &impl System, name: &str) -> std::io::Result<bool> {
         return Ok(true);
     };
     print!(rt; "{name}: the output differs at line {line}\nexpected: ")?;
-    show_line(open(rt, name, "out"), line);
+    show_line(rt, open(rt, name, "out"), line)?;
     print!(rt; "printed:  ")?;
-    show_printed(open(rt, name, "in"), line);
+    show_printed(rt, open(rt, name, "in"), line)?;
     Ok(false)
 }

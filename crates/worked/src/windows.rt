@@ -1,40 +1,49 @@
 // The windows of a worked case: NAME.windows, if there is one, over the store that NAME.in leaves. After its names line each window is asked on a line
 // of its own, with how many rows it must give or its refusal; behind it stand those rows, each as the input line that set it or gave its reading.
 use crate::{System, case};
+use console_io::{LIST, ROWS, STORE};
 use console_run::feed::{Console, next_number};
 use console_run::lent::LentWords;
 use console_text::gather::Gather;
 use console_text::parse;
 use console_text::parse::Line;
+use layout::ROW_LEN;
+use layout::refusal::Refusal;
 use std::fs::File;
 use std::io::Read;
+use std::ops::Range;
 use std::{fmt, io};
-
-// The console's store, and buffers that are large enough for every settings.
-const STORE: usize = 16000;
-
-const LIST: usize = 4096;
-
-const ROWS: usize = 12288;
 
 // What the register gave where the file has something else.
 #[derive(Clone, Copy)]
 enum Given {
     // so many rows more, of a window that is asked
-    More(u32),
+    More(usize),
     // so many rows, or this refusal
-    Answer(u32, u32),
+    Answer(Result<u32, Refusal>),
     // the window's row here: since, tag, and its reading's word
     Row(u32, u32, u32),
     // no line that can stand here
     NoLine,
 }
 
+// An answer as a line has it: its rows, and its refusal, each 0 for none. (It is compared so: a line may give rows and a refusal, or a number that
+// is no refusal's, which no answer is.)
+fn numbers(answer: Result<u32, Refusal>) -> (u32, u32) {
+    match answer {
+        Ok(rows) => (rows, 0),
+        Err(refusal) => (0, refusal.number()),
+    }
+}
+
 impl fmt::Display for Given {
     fn fmt<W: fmt::Write>(&self, f: &mut fmt::Formatter<W>) -> fmt::Result {
         match self {
             Given::More(left) => write!(f, "{left} rows more, of a window that is asked"),
-            Given::Answer(count, refusal) => write!(f, "{count} rows, refusal {refusal}"),
+            Given::Answer(answer) => {
+                let (rows, refusal) = numbers(*answer);
+                write!(f, "{rows} rows, refusal {refusal}")
+            }
             Given::Row(since, tag, reading) => {
                 write!(f, "since {since}, tag {tag}, the reading's word {reading}")
             }
@@ -50,29 +59,24 @@ struct Difference {
     given: Given,
 }
 
-// A store that is asked: so many lines agree, and the last window gave so many rows, of which so many are still to be compared.
+// A store that is asked: so many lines agree, and of the rows that the last window gave these, by number, are still to be compared.
 #[derive(Drop)]
 struct Asked<'a> {
     store: &'a [u32],
     rows: [u32; ROWS],
     lines: u64,
-    given: u32,
-    left: u32,
+    left: Range<u32>,
 }
 
 impl Asked<'_> {
     // A window must give so many rows, or this refusal.
     fn take_window(&mut self, line: &[u8]) -> Result<(), Given> {
         let (first, last, count, refusal) = parse::parse_settings(line).ok_or(Given::NoLine)?;
-        let (given, refused) = match window::window(self.store, first, last, &mut self.rows) {
-            Ok(given) => (given, 0),
-            Err(refusal) => (0, refusal.number()),
-        };
-        if (given, refused) != (count, refusal) {
-            return Err(Given::Answer(given, refused));
+        let given = window::window(self.store, first, last, &mut self.rows);
+        if numbers(given) != (count, refusal) {
+            return Err(Given::Answer(given));
         }
-        self.given = given;
-        self.left = given;
+        self.left = 0..given.unwrap_or(0);
         Ok(())
     }
 
@@ -82,14 +86,14 @@ impl Asked<'_> {
             parse::parse_change(line) else {
             return Err(Given::NoLine);
         };
-        let at = 3 * self.given.saturating_sub(self.left) as usize;
-        let Some([given_tag, given_reading, given_since]) = self.rows.get(at..at + 3) else {
+        let row = self.left.next().ok_or(Given::NoLine)?;
+        let mut rows = self.rows.chunks_exact(ROW_LEN);
+        let Some([given_tag, given_reading, given_since]) = rows.nth(row as usize) else {
             return Err(Given::NoLine);
         };
         if (*given_since, *given_tag, *given_reading) != (since, tag, reading) {
             return Err(Given::Row(*given_since, *given_tag, *given_reading));
         }
-        self.left = self.left.saturating_sub(1);
         Ok(())
     }
 
@@ -101,7 +105,7 @@ impl Asked<'_> {
             }
             return Err(Given::NoLine);
         }
-        if self.left == 0 {
+        if self.left.is_empty() {
             return self.take_window(text);
         }
         self.take_row(text)
@@ -144,8 +148,7 @@ fn compare(windows: File, store: &[u32]) -> Result<(), Difference> {
         store,
         rows: [0; ROWS],
         lines: 0,
-        given: 0,
-        left: 0,
+        left: 0..0,
     };
     let mut line = Gather::new();
     for byte in windows.bytes().map_while(|byte| byte.ok()) {
@@ -156,12 +159,12 @@ fn compare(windows: File, store: &[u32]) -> Result<(), Difference> {
     if line.left_over() {
         asked.take(&line)?;
     }
-    if asked.left == 0 && 1 < asked.lines {
+    if asked.left.is_empty() && 1 < asked.lines {
         return Ok(());
     }
     Err(Difference {
         line: next_number(asked.lines),
-        given: Given::More(asked.left),
+        given: Given::More(asked.left.len()),
     })
 }
 
@@ -178,7 +181,7 @@ pub(crate) fn agree(rt: &impl System, name: &str) -> io::Result<Option<bool>> {
         return Ok(Some(true));
     };
     print!(rt; "{name}: its windows differ at line {line}\nexpected: ")?;
-    case::show_line(case::open(rt, name, "windows"), line);
+    case::show_line(rt, case::open(rt, name, "windows"), line)?;
     println!(rt; "given:    {given}")?;
     Ok(Some(false))
 }
