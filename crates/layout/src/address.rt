@@ -1,7 +1,8 @@
 // The words of a store by what they are, and never by where they lie.
 //
 // Store and settings stay two arguments, and that the one holds the other (`Held`) a clause: what changes a store borrows it mutably, and a struct that
-// held that borrow could come back with another slice, so each contract would say besides that it is the same. (For reads: `queries::Opened`.)
+// held that borrow could come back with another slice, so each contract would say besides that it is the same. (For reads: `queries::Opened`.) That a
+// block, a slot or an address is one of the layout's (`Numbered`, `Spot`, `Valid`) is a clause too: it says how numbers stand to the settings beside them.
 ghost use Rattle.std.specs.Prelude.{◌≡◌};
 ghost use Rattle.layout.specs.Address.{Numbered, Valid};
 ghost use Rattle.layout.specs.Program.{get!, set!, wipe! };

@@ -6,6 +6,8 @@ ghost use Rattle.layout.specs.Spot.{Spot};
 
 use crate::settings::Settings;
 
+// (That a place is not 0, which is none, stays a clause: `placing` takes a place from the directory where it knows that one is there, and a `NonZeroU32`
+// would be tested for there once more.)
 // (Block and slot stay two numbers: an address, a program and a law name the one or the other, and a struct of both would be taken apart at each.)
 
 // The place of slot k of block n.
