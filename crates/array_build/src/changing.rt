@@ -1,4 +1,5 @@
 // Set, clear and new reading: decided as the register decides them, then carried out.
+// (Store and head stay two arguments, and `Held` a clause: a struct that held the mutable borrow could come back with another slice, layout/src/address.rt.)
 ghost use Rattle.std.specs.Prelude.{◌≤◌, ◌<◌};
 ghost use Rattle.layout.specs.OnWords.{Held};
 ghost use Rattle.array_build.specs.Kept.{Kept};
@@ -38,6 +39,7 @@ fn clear_tag(store: &mut [u32], h: Head, second: u32, tag: u32) -> Head
 {
     let s = h.settings;
     let place = address::read(store, s, Address::Dir(tag));
+    // (A word of the store, where 0 is none, as document 01 lays it out.)
     if place == 0 {
         return h;
     }

@@ -1,10 +1,11 @@
 // Blocks are judged, and one that closes goes through the array.
+// (Store and head stay two arguments, and `Held` a clause: a struct that held the mutable borrow could come back with another slice, layout/src/address.rt.)
 ghost use Rattle.layout.specs.Address.{Numbered};
 ghost use Rattle.layout.specs.OnWords.{Held};
 ghost use Rattle.array_build.specs.Kept.{Kept};
 
 use crate::taken;
-use crate::taken::{Record, Taken};
+use crate::taken::Record;
 use layout::address::Address;
 use layout::head::Head;
 use layout::{address, fields};
@@ -59,12 +60,12 @@ impl Places for Anew {
 
 // Records that were taken out are placed, in slot order.
 #[inline(never)]
-fn place_all<P: Places>(store: &mut [u32], h: Head, second: u32, taken: &Taken) -> Head
+fn place_all<P: Places>(store: &mut [u32], h: Head, second: u32, taken: &[Record]) -> Head
     requires { Held h.settings store.old }
     ensures { Kept h result store.new }
 {
     let mut head = h;
-    for record in taken.records() {
+    for record in taken {
         head = P::place(store, head, second, *record);
     }
     head
@@ -118,6 +119,7 @@ fn roll(store: &mut [u32], h: Head, second: u32) -> Head
         return h;
     }
     let opened = blocks::open_block(store, h, second);
+    // (The number of blocks opened, where 0 is none, as document 01 lays it out.)
     if last == 0 {
         return opened;
     }

@@ -1,9 +1,12 @@
 // The array: standing records of a block that closes, taken out of their slots.
-ghost use Rattle.std.specs.Prelude.{◌≡◌, ◌+◌, ◌<◌, ◌≤◌, length};
+// (Store and settings stay two arguments, and `Held` a clause: a struct that held the mutable borrow could come back with another slice,
+// layout/src/address.rt.)
+ghost use Rattle.std.specs.Prelude.{◌≤◌, length};
 ghost use Rattle.layout.specs.Address.{Numbered};
 ghost use Rattle.layout.specs.OnWords.{Held};
 ghost use Rattle.layout.specs.Standing.{slots};
 
+use arrayvec::ArrayVec;
 use layout::address::Address;
 use layout::payload::Payload;
 use layout::settings::Settings;
@@ -18,44 +21,19 @@ pub struct Record {
     pub payload: Payload,
 }
 
-// The records taken out, in slot order: a block closes with fewer than q standing, and q is 32 at most. There is no heap here, so the array has room for
-// that many.
-#[derive(Drop)]
-pub struct Taken {
-    array: [Record; 32],
-    count: usize,
-    ghost within: { count ≤ 32 },
-}
-
-impl Taken {
-    // No record yet.
-    fn none() -> Taken
-        ensures { result.count ≡ 0 }
-    {
-        let blank = Record {
+// What lies in the array's unused places.
+impl Default for Record {
+    fn default() -> Record {
+        Record {
             tag: 0,
             payload: payload::told(0, 0),
-        };
-        Taken {
-            array: [blank; 32],
-            count: 0,
         }
     }
-
-    // One record more.
-    fn push(&mut self, record: Record)
-        requires { self.old.count < 32 }
-        ensures { self.new.count ≡ self.old.count + 1 }
-    {
-        self.array[self.count] = record;
-        self.count += 1;
-    }
-
-    // The records, in slot order.
-    pub fn records(&self) -> &[Record] {
-        &self.array[..self.count]
-    }
 }
+
+// The records taken out, in slot order: a block closes with fewer than q standing, and q is 32 at most. There is no heap here, so the array has room for
+// that many.
+pub type Taken = ArrayVec<Record, 32>;
 
 // The standing record of slot k of block x ends at `second` and is taken out, if the block has such a slot.
 fn take(store: &mut [u32], s: Settings, x: u32, k: u32, second: u32) -> Option<Record>
@@ -79,7 +57,7 @@ pub fn take_out(store: &mut [u32], s: Settings, x: u32, second: u32, bits: Stand
     requires bits_len_bound { length (slots bits) ≤ 32 }
     ensures { Held s store.new }
 {
-    let mut taken = Taken::none();
+    let mut taken = Taken::new();
     for k in bits.slots() {
         if let Some(record) = take(store, s, x, k, second) {
             taken.push(record);

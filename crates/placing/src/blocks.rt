@@ -1,4 +1,5 @@
 // A block opens, and a block leaves the row of open blocks.
+// (`Able` stays a clause, as in moves.rt: each function asks that its own program meets addresses of the layout only, another fact for each.)
 #![tactic(auto, using(crate::proofs::Following::follows), unfolding(calls::specs::Placing::enter_time, calls::specs::Placing::open_block, calls::specs::Placing::unlink))]
 
 ghost use Rattle.std.specs.Prelude.{◌<◌};
@@ -20,6 +21,7 @@ fn enter_first(store: &mut [u32], s: Settings, level: u32, every: u32, i: u32, s
     requires every_nonzero { 0 < every }
     ensures { Ran (over s) (enter_first level every i second) store.old tt store.new }
 {
+    // (The rest of a division, a number.)
     if i % every != 0 {
         return;
     }
@@ -49,6 +51,7 @@ pub fn open_block(store: &mut [u32], h: Head, second: u32) -> Head
     address::write(store, s, Address::Field(next, fields::OPENED), second);
     address::write(store, s, Address::Field(next, fields::CLOSED), OPEN);
     address::write(store, s, Address::Field(next, fields::UP), last);
+    // (The number of blocks opened, where 0 is none, as document 01 lays it out.)
     if last == 0 {
         return h.grown(next);
     }
@@ -66,6 +69,7 @@ pub fn unlink(store: &mut [u32], h: Head, x: u32, second: u32) -> Head
     let right = address::read(store, s, Address::Field(x, fields::RIGHT));
     address::write(store, s, Address::Field(x, fields::CLOSED), second);
     address::write(store, s, Address::Field(right, fields::UP), up);
+    // (A word of the store, where 0 is none, as document 01 lays it out.)
     if up == 0 {
         address::write(store, s, Address::Field(x, fields::LEFT), h.cursor.child);
         return h.relinked(x, right);

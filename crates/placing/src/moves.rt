@@ -1,6 +1,5 @@
-// (Each function asks that its own program meets addresses of the layout only, `Able`: another fact for each, so none for a type to keep.)
-//
 // Blocks are judged: one with fewer than q standing closes, and its standing records are placed again. Room for a record is made so, too.
+// (`Able` stays a clause: each function asks that its own program meets addresses of the layout only, another fact for each, so none for a type to keep.)
 #![tactic(auto, using(crate::proofs::Following::follows), unfolding(calls::specs::Placing::roll, calls::specs::Placing::make_room, calls::specs::Placing::place, calls::specs::Placing::replace))]
 
 ghost use Rattle.std.specs.Prelude.{◌≡◌, ℕ, ltb, length};
@@ -98,6 +97,7 @@ fn roll(store: &mut [u32], h: Head, second: u32) -> Head
 {
     let last = h.cursor.opened;
     let opened = blocks::open_block(store, h, second);
+    // (The number of blocks opened, where 0 is none, as document 01 lays it out.)
     if last == 0 {
         return opened;
     }

@@ -5,4 +5,4 @@ use Rattle.layout.specs.SlotsLeft.{slots_left}
 use Rattle.array_build.proofs.taken.take_out.Given as goal
 
 abbrev pub invariant-loop-k : goal.invariant-loop-k
-invariant-loop-k l = record { held : Held l.s l.store; room : l.taken.count + length (slots_left l.k-iterator) ≤ 32 }
+invariant-loop-k l = record { held : Held l.s l.store; room : length l.taken.items + length (slots_left l.k-iterator) ≤ 32 }
