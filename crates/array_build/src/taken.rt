@@ -14,21 +14,11 @@ use layout::standing::Standing;
 use layout::{address, fields, payload};
 use placing::records;
 
-// A record without its slot: its tag, and what it tells.
-#[derive(Clone, Copy)]
+// A record without its slot: its tag, and what it tells. (Its default lies in the array's unused places.)
+#[derive(Clone, Copy, Default)]
 pub struct Record {
     pub tag: u32,
     pub payload: Payload,
-}
-
-// What lies in the array's unused places.
-impl Default for Record {
-    fn default() -> Record {
-        Record {
-            tag: 0,
-            payload: payload::told(0, 0),
-        }
-    }
 }
 
 // The records taken out, in slot order: a block closes with fewer than q standing, and q is 32 at most. There is no heap here, so the array has room for

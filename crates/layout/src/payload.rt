@@ -9,7 +9,7 @@ use crate::address::Address;
 use crate::settings::Settings;
 use crate::{address, fields};
 
-#[derive(Clone, Copy)]
+#[derive(Clone, Copy, Default)]
 pub struct Payload {
     pub reading: u32,
     // the second of the last set or new reading
