@@ -12,25 +12,17 @@ mod closing;
 mod taken;
 
 pub use changing::{clear, set, update};
-use layout::head::Head;
-use layout::refusal::Refusal;
+use layout::refusal::number_of;
 
 // The calls by plain numbers, for the counts of docs/BENCHMARKS.md (`array_build_c` exports them): 0 for an accepted call, else the refusal's number.
-fn number(answer: Result<Head, Refusal>) -> u32 {
-    match answer {
-        Ok(_) => 0,
-        Err(reason) => reason.number(),
-    }
-}
-
 pub fn array_build_set(store: &mut [u32], second: u32, tag: u32, reading: u32) -> u32 {
-    number(set(store, second, tag, reading))
+    number_of(set(store, second, tag, reading))
 }
 
 pub fn array_build_clear(store: &mut [u32], second: u32, tag: u32) -> u32 {
-    number(clear(store, second, tag))
+    number_of(clear(store, second, tag))
 }
 
 pub fn array_build_update(store: &mut [u32], second: u32, tag: u32, reading: u32) -> u32 {
-    number(update(store, second, tag, reading))
+    number_of(update(store, second, tag, reading))
 }
