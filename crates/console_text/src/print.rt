@@ -91,7 +91,7 @@ pub(crate) fn put_text(line: &mut OutputLine, text: &[u8])
     line.try_extend_from_slice(text).unwrap();
 }
 
-// A reading in tenths of a kN.
+// A reading in tenths of a kN. (The last digit by `as`, which is proved to fit: `try_from` would need an answer for what cannot be.)
 fn put_kn(line: &mut OutputLine, reading: u32)
     requires { array_vec_len line.old + 24 ≤ line_room }
     ensures kn { line.new.items ≡ line.old.items ++ kn_bytes reading }
@@ -113,7 +113,7 @@ fn tenths_of(reading: u32) -> u64
     let size = if reading < LEAST_BELOW {
         reading
     } else {
-        u32::MAX - reading + 1
+        reading.wrapping_neg()
     };
     (u64::from(size) + 5) / 10
 }
