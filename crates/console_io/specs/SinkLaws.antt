@@ -1,8 +1,7 @@
 -- Lines handed to a sink: one line that was printed, some after others, and all of them by a count.
 use Rattle.std.specs.Prelude.{◌≡◌, List, [], ◌++◌, ℕ, ◌+◌, ◌≤◌, ◌<◌, ◌-◌, ℤ, length, get_or, drop, Some, None}
 use Rattle.std.proofs.Common.{arith, add-one, drop_of_length-le, drop-cons}
-use Rattle.console_run.specs.declared.turn.Said.{Said}
-use Rattle.console_run.specs.Console.{said_lines}
+use Rattle.console_run.specs.Console.{Told, said_lines}
 use Rattle.console_run.specs.Feed.{next_number}
 use Rattle.console_run.specs.PrintLaws.{line_count, said_count}
 use Rattle.console_io.specs.declared.sink.Sink.{Sink}
@@ -68,7 +67,7 @@ module _ {a b : Sink} {lines : List (List ℕ)} {i : ℕ} (t : SentTo a lines i 
   sent_whole h = t.rest b (rw (drop_of_length-le lines h) none)
 
 -- What is said is handed on line by line, by the count of its lines.
-module _ {a b : Sink} (said : Said) (number : ℕ) (rows : List ℕ) {n i : ℕ} (e : n ≡ line_count said)
+module _ {a b : Sink} (said : Told) (number : ℕ) (rows : List ℕ) {n i : ℕ} (e : n ≡ line_count said)
     (t : SentTo a (said_lines said number rows) i b) where
   pub said_next : {c : Sink} → i < n → Emitted (get_or (said_lines said number rows) i []) b c → SentTo a (said_lines said number rows) (i + 1) c
   said_next h f = sent_next t (omega (arith, e, said_count said number rows)) f

@@ -7,7 +7,7 @@ mod descriptor;
 pub mod sink;
 
 ghost use Rattle.std.specs.Prelude.{◌≡◌};
-ghost use Rattle.console_run.specs.Console.{said_lines};
+ghost use Rattle.console_run.specs.Console.{told, said_lines};
 ghost use Rattle.console_run.specs.Feed.{is_over, finish_lines};
 ghost use Rattle.console_io.specs.Sinks.{Sent};
 ghost use Rattle.console_io.specs.Session.{running, Begins, FedByte, FedBytes, FedRead, ReadAll, Ran};
@@ -39,9 +39,9 @@ struct Session {
     sink: Sink,
 }
 
-// Every line of what is said.
+// Every line of what is said. (By their numbers: a row has its place in the buffer by its number.)
 fn print_said(sink: Sink, said: Said, number: u64, rows: &[u32]) -> Sink
-    ensures { Sent sink (said_lines said number rows.now) result }
+    ensures { Sent sink (said_lines (told said) number rows.now) result }
 {
     let mut next = sink;
     for i in 0..print::line_count(said) {
