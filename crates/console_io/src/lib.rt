@@ -107,6 +107,7 @@ impl Session {
 
     // The whole input. A read that fails ends it, as the input's end does. Nothing says that an input ends, so the reads are counted up to a
     // number that no input uses up.
+    #[tactic(auto, using(crate::specs::SessionLaws::read_none, crate::specs::SessionLaws::read_more))]
     fn read_all<R: Read>(&mut self, input: &mut R)
         ensures { ReadAll (running self.old) (running self.new) }
     {

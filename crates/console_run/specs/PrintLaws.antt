@@ -85,3 +85,5 @@ module _ (said : Told) (number : ℕ) (rows : List ℕ) (i : ℕ) {n : ℕ} (e :
   slice_is {time} {count} {blocks} s h =
       let k : n ≡ count + 1 = e ∙ ap line_count s in
       rw s (slice_at time count blocks number rows i (omega arith))
+
+pub ruleset lines_of_said = (past_is, bad_is, no_is, slice_is)

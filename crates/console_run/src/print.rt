@@ -50,6 +50,7 @@ fn slice_line(time: u32, count: u32, blocks: u32, rows: &[u32], i: u64) -> Outpu
 }
 
 // The i-th line, counted from 0, of what is said of the input line `number`; nothing past the last.
+#[tactic(auto, using(crate::specs::PrintLaws::lines_of_said))]
 pub fn line_at(said: Said, number: u64, rows: &[u32], i: u64) -> OutputLine
     ensures { result.items ≡ get_or (said_lines (told said) number rows.now) i [] }
 {
