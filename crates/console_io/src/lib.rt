@@ -13,21 +13,12 @@ ghost use Rattle.console_io.specs.Sinks.{Sent};
 ghost use Rattle.console_io.specs.Session.{running, Begins, FedByte, FedBytes, FedRead, ReadAll, Ran};
 
 use console_run::feed::{COUNT_MOST, Console};
-use console_run::lent::LentWords;
+use console_run::lent::{LIST, LentWords, ROWS, STORE};
 use console_run::print;
 use console_run::turn::{Said, Stage};
 use descriptor::Descriptor;
 use sink::Sink;
 use std::io::Read;
-
-// The store, and buffers that are large enough for every settings.
-const STORE: usize = 16000;
-
-const LIST: usize = 4096;
-
-const TAGS: usize = 4096;
-
-const ROWS: usize = print::ROW_LEN * TAGS;
 
 // A run so far.
 #[derive(Drop)]
