@@ -19,6 +19,7 @@ fn spare_zero(field: &[u8]) -> bool
 }
 
 // A plain decimal up to `most`. The value only grows, so it is held to `most` at each digit; one that leaves u32 is beyond `most` too.
+#[tactic(auto, using(crate::specs::DecimalLaws::digits))]
 fn decimal_up_to(field: &[u8], most: u32) -> Option<u32>
     ensures { result ≡ number_of most field.now }
 {
@@ -63,6 +64,7 @@ pub(crate) fn reading(field: &[u8]) -> Option<u32>
 }
 
 // A number's decimal. (The library `io` hands its digits over as a buffer and a count.)
+#[tactic(auto, using(crate::specs::DigitsLaws::digits_are))]
 pub(crate) fn put_number(line: &mut OutputLine, n: u64)
     requires { array_vec_len line.old + 20 ≤ line_room }
     ensures number { line.new.items ≡ line.old.items ++ decimal n }
