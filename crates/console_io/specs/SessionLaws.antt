@@ -4,8 +4,7 @@ use Rattle.std.proofs.Common.{sym, ◌∙◌, arith, add-one, drop_of_length-le,
 use Rattle.console_text.specs.Output.{output_names}
 use Rattle.console_run.specs.declared.feed.Console.{Console}
 use Rattle.console_run.specs.declared.feed.Step.{Step}
-use Rattle.console_run.specs.declared.turn.Said.{Said}
-use Rattle.console_run.specs.Console.{Lent, said_lines, missing, blank}
+use Rattle.console_run.specs.Console.{Lent, Told, told, said_lines, missing, blank}
 use Rattle.console_run.specs.Feed.{stepped, begun, last_taken, is_over, state, finish_lines, run_lines}
 use Rattle.console_run.specs.FeedLaws.{all_none, all_over, all_more, in_chunks, lines_none, lines_over, lines_more, prints_output}
 use Rattle.console_run.specs.SaidLaws.{lines_in_chunks}
@@ -60,6 +59,10 @@ module _ {s t : Running} {input : List ℕ} {i : ℕ} (f : FedTo s input i t) wh
 
 -- ---- reads
 
+-- The same bytes by another name.
+pub fed_as : {s t : Running} {input same : List ℕ} → input ≡ same → FedBytes same s t → FedBytes input s t
+fed_as e f = rw e f
+
 pub read_none : (s : Running) → ReadAll s s
 read_none s = record { input = []; fed = fed_nothing s }
 
@@ -69,12 +72,12 @@ read_more {chunk} r f = record { input = r.input ++ _; fed = fed_on r.fed f.fed 
 -- ---- the whole run
 
 -- At the end of the input: what the last line says, then a missing one.
-pub finished : (c : Console) (words : Lent) {after : Console} {left : Lent} {r : Step} {said : Said} {a b d : Sink}
-    → stepped r after left ≡ last_taken c words → Sent a (said_lines r.said r.number left.rows) b
-    → said ≡ missing after.stage → Sent b (said_lines said after.number left.rows) d
+pub finished : (c : Console) (words : Lent) (r : Step) {after : Console} {left : Lent} {last : Told} {a b d : Sink}
+    → stepped r after left ≡ last_taken c words → Sent a (said_lines (told r.said) r.number left.rows) b
+    → last ≡ missing after.stage → Sent b (said_lines last after.number left.rows) d
     → Sent a (finish_lines (state c words)) d
 unfolding finish_lines
-finished c words e s f t = rw (← e) (sent_on s (rw f at t))
+finished c words r e s f t = rw (← e) (sent_on s (rw f at t))
 
 -- The names line, the bytes read, and the end of the input.
 pub ran : {a d : Sink} {s t : Running} → Begins a s → ReadAll s t → Sent t.sink (finish_lines t.state) d → Ran a d

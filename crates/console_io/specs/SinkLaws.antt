@@ -1,51 +1,30 @@
 -- Lines handed to a sink: one line that was printed, some after others, and all of them by a count.
-use Rattle.std.specs.Prelude.{◌≡◌, List, [], ◌++◌, ℕ, ◌+◌, ◌≤◌, ◌<◌, ◌-◌, ℤ, length, get_or, drop, Some, None}
+use Rattle.std.specs.Prelude.{◌≡◌, List, [], ◌++◌, ℕ, ◌+◌, ◌≤◌, ◌<◌, ◌-◌, ℤ, length, get_or, drop}
 use Rattle.std.proofs.Common.{arith, add-one, drop_of_length-le, drop-cons}
-use Rattle.console_run.specs.declared.turn.Said.{Said}
-use Rattle.console_run.specs.Console.{said_lines}
+use Rattle.console_run.specs.Console.{Told, said_lines}
 use Rattle.console_run.specs.Feed.{next_number}
 use Rattle.console_run.specs.PrintLaws.{line_count, said_count}
 use Rattle.console_io.specs.declared.sink.Sink.{Sink}
-use Rattle.console_io.specs.declared.sink.Sink.TheVariants.{Write, Compare, Differs, Pick}
+use Rattle.console_io.specs.declared.sink.Sink.TheVariants.{Compare, Pick}
 use Rattle.console_io.specs.Sinks.{Emitted, written, equal, other, late, picked, Sent, none, next, FirstDifference, unasked, whole, short, found, uncompared}
 
 -- ---- one line
 
+-- (By constructor where the words of the sink are taken as they are; a descriptor that is written anew is the same by an equation.)
 module _ {a : Sink} {line : List ℕ} where
-  pub emit_written : {fd : ℤ} → a ≡ Write fd → Emitted line a (Write fd)
-  emit_written {fd} e = rw e (written fd)
-
   pub emit_equal : {fd same : ℤ} {n m : ℕ} → a ≡ Compare fd n → same ≡ fd → m ≡ next_number n → Emitted line a (Compare same m)
   emit_equal {fd} {same} {n} e g f = rw (e, g, f) (equal fd n)
-
-  pub emit_other : {fd : ℤ} {n m : ℕ} → a ≡ Compare fd n → m ≡ next_number n → Emitted line a (Differs m)
-  emit_other {fd} {n} e f = rw (e, f) (other fd n)
-
-  pub emit_late : {n : ℕ} → a ≡ Differs n → Emitted line a a
-  emit_late {n} e = rw e (late n)
 
   pub emit_picked : {fd same : ℤ} {n m : ℕ} → a ≡ Pick fd n → same ≡ fd → m ≡ n - 1 → Emitted line a (Pick same m)
   emit_picked {fd} {same} {n} e g f = rw (e, g, f) (picked fd n)
 
+pub ruleset emits = (written, emit_equal, other, late, emit_picked)
+
+pub ruleset differences = (unasked, whole, short, found, uncompared)
+
 -- The same line by another name.
 pub emit_as : {a b : Sink} {line same : List ℕ} → same ≡ line → Emitted same a b → Emitted line a b
 emit_as e h = rw (← e) h
-
-module _ {a : Sink} where
-  pub differs_unasked : {fd : ℤ} → a ≡ Write fd → FirstDifference a None
-  differs_unasked {fd} e = rw e (unasked fd)
-
-  pub differs_whole : {fd : ℤ} {n : ℕ} → a ≡ Compare fd n → FirstDifference a None
-  differs_whole {fd} {n} e = rw e (whole fd n)
-
-  pub differs_short : {fd : ℤ} {n m : ℕ} → a ≡ Compare fd n → m ≡ next_number n → FirstDifference a (Some m)
-  differs_short {fd} {n} e f = rw (e, f) (short fd n)
-
-  pub differs_found : {n : ℕ} → a ≡ Differs n → FirstDifference a (Some n)
-  differs_found {n} e = rw e (found n)
-
-  pub differs_uncompared : {fd : ℤ} {n : ℕ} → a ≡ Pick fd n → FirstDifference a None
-  differs_uncompared {fd} {n} e = rw e (uncompared fd n)
 
 -- Some lines, then others.
 pub sent_on : {a b c : Sink} {l m : List (List ℕ)} → Sent a l b → Sent b m c → Sent a (l ++ m) c
@@ -68,7 +47,7 @@ module _ {a b : Sink} {lines : List (List ℕ)} {i : ℕ} (t : SentTo a lines i 
   sent_whole h = t.rest b (rw (drop_of_length-le lines h) none)
 
 -- What is said is handed on line by line, by the count of its lines.
-module _ {a b : Sink} (said : Said) (number : ℕ) (rows : List ℕ) {n i : ℕ} (e : n ≡ line_count said)
+module _ {a b : Sink} (said : Told) (number : ℕ) (rows : List ℕ) {n i : ℕ} (e : n ≡ line_count said)
     (t : SentTo a (said_lines said number rows) i b) where
   pub said_next : {c : Sink} → i < n → Emitted (get_or (said_lines said number rows) i []) b c → SentTo a (said_lines said number rows) (i + 1) c
   said_next h f = sent_next t (omega (arith, e, said_count said number rows)) f

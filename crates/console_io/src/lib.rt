@@ -7,27 +7,18 @@ mod descriptor;
 pub mod sink;
 
 ghost use Rattle.std.specs.Prelude.{◌≡◌};
-ghost use Rattle.console_run.specs.Console.{said_lines};
+ghost use Rattle.console_run.specs.Console.{told, said_lines};
 ghost use Rattle.console_run.specs.Feed.{is_over, finish_lines};
 ghost use Rattle.console_io.specs.Sinks.{Sent};
 ghost use Rattle.console_io.specs.Session.{running, Begins, FedByte, FedBytes, FedRead, ReadAll, Ran};
 
 use console_run::feed::{COUNT_MOST, Console};
-use console_run::lent::LentWords;
+use console_run::lent::{LIST, LentWords, ROWS, STORE};
 use console_run::print;
 use console_run::turn::{Said, Stage};
 use descriptor::Descriptor;
 use sink::Sink;
 use std::io::Read;
-
-// The store, and buffers that are large enough for every settings.
-pub const STORE: usize = 16000;
-
-pub const LIST: usize = 4096;
-
-const TAGS: usize = 4096;
-
-pub const ROWS: usize = print::ROW_LEN * TAGS;
 
 // A run so far.
 #[derive(Drop)]
@@ -39,9 +30,9 @@ struct Session {
     sink: Sink,
 }
 
-// Every line of what is said.
+// Every line of what is said. (By their numbers: a row has its place in the buffer by its number.)
 fn print_said(sink: Sink, said: Said, number: u64, rows: &[u32]) -> Sink
-    ensures { Sent sink (said_lines said number rows.now) result }
+    ensures { Sent sink (said_lines (told said) number rows.now) result }
 {
     let mut next = sink;
     for i in 0..print::line_count(said) {
@@ -107,6 +98,7 @@ impl Session {
 
     // The whole input. A read that fails ends it, as the input's end does. Nothing says that an input ends, so the reads are counted up to a
     // number that no input uses up.
+    #[tactic(auto, using(crate::specs::SessionLaws::read_none, crate::specs::SessionLaws::read_more))]
     fn read_all<R: Read>(&mut self, input: &mut R)
         ensures { ReadAll (running self.old) (running self.new) }
     {

@@ -41,6 +41,7 @@ fn pass(fd: i32, left: u64, line: &[u8]) -> u64
 
 impl Sink {
     // At the end of a compared run: the first line, counted from 1, that differs, be it one that was expected and did not come.
+    #[tactic(auto, using(crate::specs::SinkLaws::differences))]
     pub fn first_difference(self) -> Option<u64>
         ensures { FirstDifference self result }
     {
@@ -56,6 +57,7 @@ impl Sink {
     }
 
     // One line goes out.
+    #[tactic(auto, using(crate::specs::SinkLaws::emits))]
     pub(crate) fn emit(self, line: &[u8]) -> Sink
         ensures { Emitted line.now self result }
     {

@@ -3,19 +3,20 @@ use Rattle.std.specs.Prelude.{Bool, true, false, cond, List, [], ◌∷◌, ◌+
 use Rattle.console_text.specs.Lines.{Text, new_line, left_over, fed_answer, fed_next}
 use Rattle.console_run.specs.declared.turn.Stage.{Stage}
 use Rattle.console_run.specs.declared.turn.Stage.TheVariants.{SettingsNames, Settings, ChangeNames, Changes, Over}
-use Rattle.console_run.specs.declared.turn.Said.TheVariants.{Nothing}
+use Rattle.console_run.specs.declared.turn.Said.TheVariants as said
 use Rattle.console_run.specs.declared.feed.Console.{Console}
 use Rattle.console_run.specs.declared.feed.Step.{Step}
-use Rattle.console_run.specs.Console.{Lent, line_does, said_lines, joined, missing}
+use Rattle.console_run.specs.Console.{Lent, Told, told, line_does, said_lines, joined, missing}
 
--- A step, with the console and the lent words after it.
+-- What a step says, of which line, and the console and the lent words after it.
 pub record Stepped : Type 0 where
-  pub step : Step
+  pub said : Told
+  pub number : ℕ
   pub console : Console
   pub lent : Lent
 
 abbrev pub stepped : Step → Console → Lent → Stepped
-stepped step console words = record { step = step; console = console; lent = words }
+stepped step console words = record { said = told step.said; number = step.number; console = console; lent = words }
 
 -- Before the first byte.
 abbrev pub begun : Console
@@ -30,7 +31,7 @@ next_number number = cond (ltb number count_most) (number + 1) number
 
 -- No line is complete: the console goes on as it is.
 abbrev pub goes_on : Console → Step
-goes_on c = record { said = Nothing; number = c.number }
+goes_on c = record { said = said.Nothing; number = c.number }
 
 abbrev pub quiet : Console → Lent → Stepped
 quiet c words = stepped (goes_on c) c words
@@ -39,7 +40,7 @@ quiet c words = stepped (goes_on c) c words
 unfoldable pub taken : Console → Text → Lent → Stepped
 taken c line words =
     let d = line_does c.stage line words in
-    stepped (record { said = d.turn.said; number = c.number }) (record c { stage = d.turn.next; number = next_number c.number }) d.lent
+    record { said = d.said; number = c.number; console = record c { stage = d.next; number = next_number c.number }; lent = d.lent }
 
 -- What a byte does: the line goes on, or it is complete.
 unfoldable pub fed_by : Option Text → Console → Lent → Stepped
@@ -85,7 +86,7 @@ fed_all s (x ∷ more) = cond (is_over s.console.stage) s (fed_all (after_byte s
 
 -- The output lines of a step, and their bytes.
 abbrev pub step_lines : Stepped → List (List ℕ)
-step_lines s = said_lines s.step.said s.step.number s.lent.rows
+step_lines s = said_lines s.said s.number s.lent.rows
 
 abbrev pub step_bytes : Stepped → List ℕ
 step_bytes s = joined (step_lines s)

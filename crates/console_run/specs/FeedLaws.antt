@@ -7,9 +7,8 @@ use Rattle.console_text.specs.LinesLaws.{gathered_end, gathered_on, gathered_lin
 use Rattle.console_text.specs.Output.{output_names}
 use Rattle.console_run.specs.declared.turn.Stage.{Stage}
 use Rattle.console_run.specs.declared.turn.Stage.TheVariants.{SettingsNames, Settings, ChangeNames, Changes, Over}
-use Rattle.console_run.specs.declared.turn.Said.TheVariants.{Nothing}
 use Rattle.console_run.specs.declared.feed.Console.{Console}
-use Rattle.console_run.specs.Console.{Lent, line_does, said_lines, joined, said_bytes, missing, console_from, blank, console_output}
+use Rattle.console_run.specs.Console.{Lent, Nothing, line_does, said_lines, joined, said_bytes, missing, console_from, blank, console_output}
 use Rattle.console_run.specs.Feed.{begun, count_most, next_number, quiet, taken, fed_by, fed, last_taken, is_over, ConsoleState, state, after_byte, fed_all, step_lines, step_bytes, fed_lines, finish_lines, run_lines}
 
 -- ---- bytes, one after another
@@ -77,7 +76,7 @@ run_more s x more e =
 -- ---- the whole input
 
 -- Once it is over, nothing is said of any line.
-over_said : (text : Text) (words : Lent) → line_does Over text words ≡ record { turn = record { next = Over; said = Nothing }; lent = words }
+over_said : (text : Text) (words : Lent) → line_does Over text words ≡ record { next = Over; said = Nothing; lent = words }
 over_said (whole text) words = refl
 over_said too_long words = refl
 
@@ -93,8 +92,8 @@ over_from words number (text ∷ more) = rw (over_said text words, nothing_said 
 -- A line more.
 from_more : (stage : Stage) (words : Lent) (number : ℕ) (text : Text) (more : List Text)
     → console_from stage words number (text ∷ more)
-    ≡ said_bytes (line_does stage text words).turn.said number (line_does stage text words).lent.rows
-    ++ console_from (line_does stage text words).turn.next (line_does stage text words).lent (suc number) more
+    ≡ said_bytes (line_does stage text words).said number (line_does stage text words).lent.rows
+    ++ console_from (line_does stage text words).next (line_does stage text words).lent (suc number) more
 unfolding console_from
 from_more stage words number text more = refl
 

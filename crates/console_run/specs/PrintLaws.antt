@@ -6,12 +6,10 @@ use Rattle.std.proofs.lemmas.List.{get_or_at}
 use Rattle.std.proofs.lemmas.Bool.{lt-leb}
 use Rattle.base.specs.Branch.{lt?}
 use Rattle.console_text.specs.Output.{sum_line, no_line, bad_line}
-use Rattle.console_run.specs.declared.turn.Said.{Said}
-use Rattle.console_run.specs.declared.turn.Said.TheVariants.{Nothing, Bad, No, Slice}
-use Rattle.console_run.specs.Console.{row_line_at, row_lines, said_lines}
+use Rattle.console_run.specs.Console.{Told, Nothing, Bad, No, Slice, row_line_at, row_lines, said_lines}
 
 -- How many lines are printed.
-abbrev pub line_count : Said → ℕ
+abbrev pub line_count : Told → ℕ
 line_count Nothing = 0
 line_count Bad = 1
 line_count (No time refusal) = 1
@@ -36,7 +34,7 @@ rows_at time rows i (suc n) (suc j) h =
     rows_at time rows (suc i) n j (omega arith) ∙ ap (row_line_at time rows) e
 
 -- THE COUNT OF LINES IS THAT OF THE DEFINITION.
-pub said_count : (said : Said) (number : ℕ) (rows : List ℕ) → length (said_lines said number rows) ≡ line_count said
+pub said_count : (said : Told) (number : ℕ) (rows : List ℕ) → length (said_lines said number rows) ≡ line_count said
 unfolding said_lines
 said_count Nothing number rows = refl
 said_count Bad number rows = refl
@@ -44,7 +42,7 @@ said_count (No time refusal) number rows = refl
 said_count (Slice time count blocks) number rows = simp (length-append, rows_length time rows 0 count)
 
 -- ---- the i-th line
-pub past_last : (said : Said) (number : ℕ) (rows : List ℕ) (i : ℕ) → line_count said ≤ i → get_or (said_lines said number rows) i [] ≡ []
+pub past_last : (said : Told) (number : ℕ) (rows : List ℕ) (i : ℕ) → line_count said ≤ i → get_or (said_lines said number rows) i [] ≡ []
 past_last said number rows i h = get_or-eq_default (said_lines said number rows) [] (omega (arith, said_count said number rows))
 
 pub bad_first : (number : ℕ) (rows : List ℕ) (i : ℕ) → i < 1 → get_or (said_lines Bad number rows) i [] ≡ bad_line number
@@ -68,7 +66,7 @@ slice_at time count blocks number rows i h = lt? i count
     first i = omega arith
 
 -- What is said, where it is known, has this i-th line.
-module _ (said : Said) (number : ℕ) (rows : List ℕ) (i : ℕ) {n : ℕ} (e : n ≡ line_count said) where
+module _ (said : Told) (number : ℕ) (rows : List ℕ) (i : ℕ) {n : ℕ} (e : n ≡ line_count said) where
   pub past_is : n ≤ i → get_or (said_lines said number rows) i [] ≡ []
   past_is h = past_last said number rows i (omega arith)
 
@@ -87,3 +85,5 @@ module _ (said : Said) (number : ℕ) (rows : List ℕ) (i : ℕ) {n : ℕ} (e :
   slice_is {time} {count} {blocks} s h =
       let k : n ≡ count + 1 = e ∙ ap line_count s in
       rw s (slice_at time count blocks number rows i (omega arith))
+
+pub ruleset lines_of_said = (past_is, bad_is, no_is, slice_is)

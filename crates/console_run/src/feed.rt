@@ -29,6 +29,7 @@ pub struct Step {
 pub const COUNT_MOST: u64 = u64::MAX;
 
 // The number after this one.
+#[tactic(auto, unfolding(crate::specs::Feed::next_number))]
 pub fn next_number(number: u64) -> u64
     ensures { result ≡ next_number number }
 {
@@ -58,6 +59,7 @@ impl Console {
     }
 
     // This line is complete: the next is awaited.
+    #[tactic(auto, unfolding(crate::specs::Feed::taken))]
     fn take(&mut self, line: &Gather, lent: &mut LentWords<'_>) -> Step
         ensures same { SameLent lent.old lent.new }
         ensures takes { stepped result self.new (lent_of lent.new) ≡ taken self.old line.now (lent_of lent.old) }
@@ -73,6 +75,7 @@ impl Console {
     }
 
     // The next byte.
+    #[tactic(auto, unfolding(crate::specs::Feed::fed, crate::specs::Feed::fed_by))]
     pub fn feed(&mut self, byte: u8, lent: &mut LentWords<'_>) -> Step
         ensures same { SameLent lent.old lent.new }
         ensures feeds { stepped result self.new (lent_of lent.new) ≡ fed self.old (lent_of lent.old) byte }
@@ -84,6 +87,7 @@ impl Console {
     }
 
     // At the end of the input: the last line, if there is one that lacks its newline.
+    #[tactic(auto, unfolding(crate::specs::Feed::last_taken))]
     pub fn last(&mut self, lent: &mut LentWords<'_>) -> Step
         ensures same { SameLent lent.old lent.new }
         ensures takes { stepped result self.new (lent_of lent.new) ≡ last_taken self.old (lent_of lent.old) }

@@ -1,6 +1,6 @@
 // The output lines for what is said, one at a time.
 ghost use Rattle.std.specs.Prelude.{◌≡◌, get_or, []};
-ghost use Rattle.console_run.specs.Console.{missing, said_lines};
+ghost use Rattle.console_run.specs.Console.{told, missing, said_lines};
 ghost use Rattle.console_run.specs.PrintLaws.{line_count, slice_line};
 
 use crate::turn::{Said, Stage};
@@ -10,7 +10,7 @@ pub use layout::ROW_LEN;
 
 // At the end of the input: one of the first three lines is missing, or nothing is.
 pub fn at_end(stage: Stage) -> Said
-    ensures { result ≡ missing stage }
+    ensures { told result ≡ missing stage }
 {
     match stage {
         Stage::SettingsNames | Stage::Settings | Stage::ChangeNames => Said::Bad,
@@ -20,7 +20,7 @@ pub fn at_end(stage: Stage) -> Said
 
 // How many lines are printed.
 pub fn line_count(said: Said) -> u64
-    ensures { result ≡ line_count said }
+    ensures { result ≡ line_count (told said) }
 {
     match said {
         Said::Nothing => 0,
@@ -50,8 +50,9 @@ fn slice_line(time: u32, count: u32, blocks: u32, rows: &[u32], i: u64) -> Outpu
 }
 
 // The i-th line, counted from 0, of what is said of the input line `number`; nothing past the last.
+#[tactic(auto, using(crate::specs::PrintLaws::lines_of_said))]
 pub fn line_at(said: Said, number: u64, rows: &[u32], i: u64) -> OutputLine
-    ensures { result.items ≡ get_or (said_lines said number rows.now) i [] }
+    ensures { result.items ≡ get_or (said_lines (told said) number rows.now) i [] }
 {
     if line_count(said) <= i {
         return OutputLine::new();
@@ -59,7 +60,7 @@ pub fn line_at(said: Said, number: u64, rows: &[u32], i: u64) -> OutputLine
     match said {
         Said::Nothing => OutputLine::new(),
         Said::Bad => print::bad_line(number),
-        Said::No(time, refusal) => print::no_line(time, refusal),
+        Said::No(time, refusal) => print::no_line(time, refusal.number()),
         Said::Slice(time, count, blocks) => slice_line(time, count, blocks, rows, i),
     }
 }

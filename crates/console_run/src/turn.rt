@@ -28,8 +28,8 @@ pub enum Stage {
 pub enum Said {
     Nothing,
     Bad,
-    // time, refusal
-    No(u32, u32),
+    // time, why
+    No(u32, Refusal),
     // time, rows, blocks listed
     Slice(u32, u32, u32),
 }
@@ -65,6 +65,28 @@ fn names(stands: bool, stage: Stage, next: Stage) -> Turn
     }
 }
 
+// What a line asks for: a call, at the line's time.
+#[derive(Clone, Copy)]
+struct Asked {
+    time: u32,
+    call: Call,
+}
+
+impl From<Line> for Asked {
+    ghost from_gives = { λ line asked. asked ≡ asked_of line };
+
+    fn from(line: Line) -> Asked {
+        let (time, call) = match line {
+            Line::Set(time, tag, reading) => (time, Call::Set(time, tag, reading)),
+            Line::Clear(time, tag) => (time, Call::Clear(time, tag)),
+            Line::Update(time, tag, reading) => (time, Call::Update(time, tag, reading)),
+            Line::Advance(time) => (time, Call::Advance(time)),
+            Line::LookBack(time) => (time, Call::LookBack(time)),
+        };
+        Asked { time, call }
+    }
+}
+
 // A call's answer, for a line of this time: `done` is awaited after an accepted one, `refused` after a refused one.
 fn answered(answer: Result<Answer, Refusal>, time: u32, done: Stage, refused: Stage) -> Turn
     ensures { result ≡ turn_of done refused time answer }
@@ -75,18 +97,18 @@ fn answered(answer: Result<Answer, Refusal>, time: u32, done: Stage, refused: St
             done,
             Said::Slice(time, slice.counts.rows, slice.counts.blocks),
         ),
-        Err(refusal) => (refused, Said::No(time, refusal.number())),
+        Err(refusal) => (refused, Said::No(time, refusal)),
     };
     Turn { next, said }
 }
 
-// A call at a time, and what is awaited after it, accepted or refused.
-fn called(call: Call, time: u32, done: Stage, refused: Stage, lent: &mut LentWords<'_>) -> Turn
+// A call, and what is awaited after it, accepted or refused.
+fn called(asked: Asked, done: Stage, refused: Stage, lent: &mut LentWords<'_>) -> Turn
     ensures same { SameLent lent.old lent.new }
-    ensures does { does result (lent_of lent.new) ≡ called done refused time call (lent_of lent.old) }
+    ensures does { does result (lent_of lent.new) ≡ called done refused asked.time asked.call (lent_of lent.old) }
 {
-    let answer = applying::apply(lent.store, call, lent.rows, lent.list);
-    answered(answer, time, done, refused)
+    let answer = applying::apply(lent.store, asked.call, lent.rows, lent.list);
+    answered(answer, asked.time, done, refused)
 }
 
 // The settings ask for start, at time 0.
@@ -97,23 +119,14 @@ fn settings(text: &[u8], lent: &mut LentWords<'_>) -> Turn
     let Some((b, q, blocks, tags)) = parse::parse_settings(text) else {
         return bad_at(Stage::Settings);
     };
-    let start = Call::Start(Settings::asked(b, q, blocks, tags));
-    called(start, 0, Stage::ChangeNames, Stage::Over, lent)
+    let start = Asked {
+        time: 0,
+        call: Call::Start(Settings::asked(b, q, blocks, tags)),
+    };
+    called(start, Stage::ChangeNames, Stage::Over, lent)
 }
 
-// The time of a change, and the call that it asks for.
-fn asked_of(line: Line) -> (u32, Call)
-    ensures { result ≡ asked_of line }
-{
-    match line {
-        Line::Set(time, tag, reading) => (time, Call::Set(time, tag, reading)),
-        Line::Clear(time, tag) => (time, Call::Clear(time, tag)),
-        Line::Update(time, tag, reading) => (time, Call::Update(time, tag, reading)),
-        Line::Advance(time) => (time, Call::Advance(time)),
-        Line::LookBack(time) => (time, Call::LookBack(time)),
-    }
-}
-
+// A change, or a look back.
 fn change(text: &[u8], lent: &mut LentWords<'_>) -> Turn
     ensures same { SameLent lent.old lent.new }
     ensures does { does result (lent_of lent.new) ≡ change_do (change_line text.now) (lent_of lent.old) }
@@ -121,8 +134,7 @@ fn change(text: &[u8], lent: &mut LentWords<'_>) -> Turn
     let Some(line) = parse::parse_change(text) else {
         return bad_at(Stage::Changes);
     };
-    let (time, call) = asked_of(line);
-    called(call, time, Stage::Changes, Stage::Changes, lent)
+    called(line.into(), Stage::Changes, Stage::Changes, lent)
 }
 
 // A line of at most LINE_MOST bytes.

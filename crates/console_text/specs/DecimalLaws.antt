@@ -21,20 +21,21 @@ module _ {most v i : ℕ} {field : List ℕ} (r : ReadTo most field v i) (h : i 
   read_other (inl a) = sym (here ∙ rw (lt-ltb (get_or field i 0) 48 a))
   read_other (inr b) = sym (here ∙ rw (le-ltb (get_or field i 0) 48 (omega arith), lt-ltb 57 (get_or field i 0) b))
 
-  module _ (d : IsAsciiDigit (get_or field i 0)) {w : ℕ} (e : w ≡ 10 * v + (get_or field i 0 - 48)) where
-    pub read_over : most < w → None ≡ number_of most field
-    unfolding read_on
-    read_over o = sym (here ∙ rw (le-ltb (get_or field i 0) 48 d.0, le-ltb 57 (get_or field i 0) d.1, ← e, lt-ltb most w o))
+  pub read_over : IsAsciiDigit (get_or field i 0) → most < 10 * v + (get_or field i 0 - 48) → None ≡ number_of most field
+  unfolding read_on
+  read_over d o = sym (here ∙ rw (le-ltb (get_or field i 0) 48 d.0, le-ltb 57 (get_or field i 0) d.1, lt-ltb most (10 * v + (get_or field i 0 - 48)) o))
 
-    -- A digit more.
-    pub read_next : w ≤ most → ReadTo most field w (i + 1)
-    unfolding read_on
-    read_next o = record {
-      within = omega arith;
-      small = o;
-      is = here ∙ rw (le-ltb (get_or field i 0) 48 d.0, le-ltb 57 (get_or field i 0) d.1, ← e, le-ltb most w o, add-one);
-    }
+  -- A digit more.
+  pub read_next : IsAsciiDigit (get_or field i 0) → {w : ℕ} → w ≡ 10 * v + (get_or field i 0 - 48) → w ≤ most → ReadTo most field w (i + 1)
+  unfolding read_on
+  read_next d {w} e o = record {
+    within = omega arith;
+    small = o;
+    is = here ∙ rw (le-ltb (get_or field i 0) 48 d.0, le-ltb 57 (get_or field i 0) d.1, ← e, le-ltb most w o, add-one);
+  }
 
 pub read_end : {most v i : ℕ} {field : List ℕ} → ReadTo most field v i → length field ≤ i → Some v ≡ number_of most field
 unfolding read_on
 read_end {i = i} {field = field} r h = sym (r.is ∙ rw (drop_of_length-le field h))
+
+pub ruleset digits = (read_other, read_over, read_next, read_end)

@@ -1,16 +1,19 @@
--- Fields taken off a line one after another; and parts with bytes in front of the first.
-use Rattle.std.specs.Prelude.{◌≡◌, refl, Bool, true, false, List, [], ◌∷◌, ◌++◌, ℕ, ◌≤◌, eqb, length, Option, Some, None}
-use Rattle.std.specs.Iterator.{AlwaysYields}
+-- Parts with bytes in front of the first; and a line's four fields, as the library gives them.
+use Rattle.std.specs.Prelude.{◌≡◌, ◌≢◌, ◌⊎◌, refl, Bool, true, false, List, [], ◌∷◌, ◌++◌, ℕ, ◌≤◌, ◌<◌, eqb, length, map, Option, Some, None, IsNone, IfSome, IsTrue}
+use Rattle.std.specs.Iterator.{AlwaysYields, Yields}
+use Rattle.std.specs.Iterator.Runs.{Run, YieldsRun, SomeRun, WholeRun}
 use Rattle.std.specs.List as list
-use Rattle.std.proofs.Common.{◌∙◌, append_assoc, append-nil, arith}
+use Rattle.std.proofs.Common.{◌∙◌, ap, inl, inr, append_assoc, arith}
+use Rattle.std.proofs.lemmas.List.{length-map}
 use Rattle.std.proofs.lemmas.List.Splits.{slice_split-cons_yes, slice_split-cons_no, length-slice_split}
+use Rattle.std.proofs.lemmas.Iterator.{YieldsList, items_from_drains}
 use Rattle.std.proofs.lemmas.Iterator.Splits.{YieldsList-from_slice_split}
 use Rattle.std.specs.Borrow.{Bor}
 use Rattle.std.specs.Fn.{CalledAt}
 use Rattle.std.specs.Slice.Iter.{split_steps, split_rest, split_done, split_callee}
 use Rattle.std.specs.declared.slice.Split.{Split}
 use denote.Param.Members.{Mut}
-use Rattle.console_text.specs.Fields.{split, fields_of}
+use Rattle.console_text.specs.Fields.{split, fields_of, four, FourFields, four_of, fields_view}
 
 -- ---- parts
 
@@ -48,39 +51,49 @@ split_on s x l e = slice_split-cons_no (λ y. eqb y s) x l e ∙ same (split s l
     same [] = refl
     same (part ∷ parts) = refl
 
--- ---- fields taken off a line by the library's iterator
+-- ---- fields given by the library's iterator
 
-module _ {S A : Type 0} (steps : S → Option A → S → Type 0) (v : A → List ℕ) where
-  -- From t on the iterator gives the parts that follow these.
-  pub record Took (parts front : List (List ℕ)) (t : S) : Type 0 where
-    pub rest : List (List ℕ)
-    pub is : parts ≡ front ++ rest
-    pub left : AlwaysYields steps v t rest
+-- No run gives more items than there are parts.
+no_longer : {S A : Type 0} (steps : S → Option A → S → Type 0) (v : A → List ℕ) (xs : List A) (parts : List (List ℕ)) (s t : S)
+    → AlwaysYields steps v s parts → Yields steps s xs t → length xs ≤ length parts
+no_longer steps v [] parts s t l y = omega arith
+no_longer steps v (x ∷ xs) [] s t l y = absurd (l x y.0 y.1)
+no_longer steps v (x ∷ xs) (part ∷ parts) s t l y = omega (arith, no_longer steps v xs parts y.0 t (l.1 x y.0 y.1).1 y.2)
 
-  pub took_none : {parts : List (List ℕ)} {s : S} → AlwaysYields steps v s parts → Took parts [] s
-  took_none {parts} h = record { rest = parts; is = refl; left = h }
+module _ {S A : Type 0} {steps : S → Option A → S → Type 0} {v : A → List ℕ} {s : S} {parts : List (List ℕ)} (h : YieldsList steps v s parts)
+    (p : Run steps) (e : p.from ≡ s) where
+  at_most : p.len ≤ length parts
+  unfolding YieldsRun
+  at_most = omega (arith, p.long, no_longer steps v p.items parts s p.gave.0.0 h.runs (rw e at p.gave.0.1))
 
-  module _ {parts front : List (List ℕ)} {s t : S} (h : Took parts front s) where
-    pub took_next : (x : A) → steps s (Some x) t → Took parts (front ++ (v x ∷ [])) t
-    took_next x k = go h.rest h.is h.left
-      where
-        go : (rest : List (List ℕ)) → parts ≡ front ++ rest → AlwaysYields steps v s rest → Took parts (front ++ (v x ∷ [])) t
-        go [] e l = absurd (l x t k)
-        go (y ∷ rest) e l = let m = l.1 x t k in record { rest = rest; is = e ∙ rw (← m.0, append_assoc); left = m.1 }
+  -- A run to the end gives the parts.
+  whole_run : p.whole ≡ true → map v p.items ≡ parts
+  unfolding YieldsRun
+  whole_run w = items_from_drains p.items (p.gave.0.0, rw e at p.gave.0.1, λ _. p.gave.0.2 w) h
 
-    pub took_all : steps s None t → parts ≡ front
-    took_all k = go h.rest h.is h.left
-      where
-        go : (rest : List (List ℕ)) → parts ≡ front ++ rest → AlwaysYields steps v s rest → parts ≡ front
-        go [] e l = e ∙ append-nil front
-        go (y ∷ rest) e l = absurd (l.0 t k)
+  no_four : (IsTrue p.whole × (p.len < 4)) ⊎ (p.len ≡ 5) → length parts ≢ 4
+  no_four (inl w) k = absurd (omega (arith, p.long, w.1, ap length (whole_run w.0), length-map p.items v))
+  no_four (inr f) k = absurd (omega (arith, f, at_most))
 
--- The first field, where the iterator cuts at commas.
-module _ {F : Type 0} {g : Mut F (Bor ℕ × Unit {0}) Bool} {f : F} {t : Split ℕ F} (line : List ℕ) (s : Split ℕ F) (x : Bor (List ℕ)) where
-  pub first_taken : split_steps g s (Some x) t → split_rest s ≡ line → split_done s ≡ false → split_callee s ≡ f
+-- Fewer or more than four say nothing.
+not_four : (parts : List (List ℕ)) → length parts ≢ 4 → None ≡ four None four_of parts
+not_four [] n = refl
+not_four (a ∷ []) n = refl
+not_four (a ∷ b ∷ []) n = refl
+not_four (a ∷ b ∷ c ∷ []) n = refl
+not_four (a ∷ b ∷ c ∷ d ∷ []) n = absurd (n refl)
+not_four (a ∷ b ∷ c ∷ d ∷ e ∷ more) n = refl
+
+-- What the library collects of a line that it cuts at its commas is what the line's fields say.
+module _ {F : Type 0} {g : Mut F (Bor ℕ × Unit {0}) Bool} {f : F} (line : List ℕ) (s : Split ℕ F) where
+  pub four_collected : (r : Option (FourFields (Bor (List ℕ))))
+      → IfSome r (λ t. WholeRun (split_steps g) s (λ p. p.items ≡ t.0 ∷ t.1 ∷ t.2 ∷ t.3 ∷ []))
+      → (IsNone r → SomeRun (split_steps g) s (λ p. (IsTrue p.whole × (p.len < 4)) ⊎ (p.len ≡ 5)))
+      → split_rest s ≡ line → split_done s ≡ false → split_callee s ≡ f
       → ((y : ℕ) (b : Bool) (q : F) → CalledAt g f y b q → (q ≡ f) × (b ≡ eqb y 44))
-      → Took (split_steps g) (λ y. y.now) (fields_of line) (x.now ∷ []) t
-  first_taken k rest done closure tests =
-      let start = took_none (split_steps g) (λ (y : Bor (List ℕ)). y.now)
-      (YieldsList-from_slice_split {s = s} g (λ y. eqb y 44) line rest done closure tests).runs in
-      took_next (split_steps g) (λ y. y.now) start x k
+      → fields_view r ≡ four None four_of (fields_of line)
+  four_collected (Some t) some none rest done closure tests =
+      rw (← whole_run (YieldsList-from_slice_split {s = s} g (λ y. eqb y 44) line rest done closure tests) some.0 some.1 some.2, some.3)
+  four_collected None some none rest done closure tests =
+      let n = none refl in
+      not_four (fields_of line) (no_four (YieldsList-from_slice_split {s = s} g (λ y. eqb y 44) line rest done closure tests) n.0 n.1 n.2)

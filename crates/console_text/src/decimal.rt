@@ -18,24 +18,25 @@ fn spare_zero(field: &[u8]) -> bool
     matches!(field, [b'0', _, ..])
 }
 
-// A plain decimal up to `most`. The value only grows, so it is held to `most` at each digit and never leaves u64.
+// A plain decimal up to `most`. The value only grows, so it is held to `most` at each digit; one that leaves u32 is beyond `most` too.
+#[tactic(auto, using(crate::specs::DecimalLaws::digits))]
 fn decimal_up_to(field: &[u8], most: u32) -> Option<u32>
     ensures { result ≡ number_of most field.now }
 {
     if field.is_empty() || spare_zero(field) {
         return None;
     }
-    let mut value: u64 = 0;
+    let mut value: u32 = 0;
     for &byte in field {
         if !byte.is_ascii_digit() {
             return None;
         }
-        value = 10 * value + u64::from(byte - b'0');
-        if u64::from(most) < value {
+        value = value.checked_mul(10)?.checked_add(u32::from(byte - b'0'))?;
+        if most < value {
             return None;
         }
     }
-    Some(value as u32)
+    Some(value)
 }
 
 // A setting, a time or a tag.
@@ -49,10 +50,7 @@ pub(crate) fn word(field: &[u8]) -> Option<u32>
 fn negated(size: u32) -> Option<u32>
     ensures { result ≡ negated (Some size) }
 {
-    if size == 0 {
-        return None;
-    }
-    Some(u32::MAX - size + 1)
+    (size != 0).then_some(size.wrapping_neg())
 }
 
 // A reading, as its stored word.
@@ -66,6 +64,7 @@ pub(crate) fn reading(field: &[u8]) -> Option<u32>
 }
 
 // A number's decimal. (The library `io` hands its digits over as a buffer and a count.)
+#[tactic(auto, using(crate::specs::DigitsLaws::digits_are))]
 pub(crate) fn put_number(line: &mut OutputLine, n: u64)
     requires { array_vec_len line.old + 20 ≤ line_room }
     ensures number { line.new.items ≡ line.old.items ++ decimal n }

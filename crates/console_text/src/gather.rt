@@ -61,19 +61,13 @@ impl Gather {
     pub fn left_over(&self) -> bool
         ensures { result ≡ left_over self.now }
     {
-        match &self.bytes {
-            Some(bytes) => !bytes.is_empty(),
-            None => true,
-        }
+        self.bytes.as_ref().is_none_or(|bytes| !bytes.is_empty())
     }
 
     // The line's bytes; none where they are too many.
     pub fn text(&self) -> Option<&[u8]>
         ensures { MatchOption result (self.now ≡ too_long) (λ text. self.now ≡ whole text.now) }
     {
-        match &self.bytes {
-            Some(bytes) => Some(bytes.as_slice()),
-            None => None,
-        }
+        self.bytes.as_ref().map(|bytes| bytes.as_slice())
     }
 }

@@ -4,6 +4,7 @@ ghost use Rattle.console_text.specs.Input.{settings_names, change_names, setting
 ghost use Rattle.console_text.specs.Fields.{fields_of, four, four_of, fields_view};
 
 use crate::decimal::{reading, word};
+use itertools::Itertools;
 
 // A line after the third. A reading is its stored word.
 #[derive(Clone, Copy)]
@@ -37,18 +38,11 @@ pub fn is_change_names(line: &[u8]) -> bool
 fn four_fields(line: &[u8]) -> Option<(&[u8], &[u8], &[u8], &[u8])>
     ensures { fields_view result ≡ four None four_of (fields_of line.now) }
 {
-    let mut fields = line.split(|&byte| byte == b',');
-    let first = fields.next()?;
-    let second = fields.next()?;
-    let third = fields.next()?;
-    let fourth = fields.next()?;
-    match fields.next() {
-        None => Some((first, second, third, fourth)),
-        Some(_) => None,
-    }
+    line.split(|&byte| byte == b',').collect_tuple()
 }
 
 // b,q,B,D
+#[tactic(auto, using(crate::specs::InputLaws::numbers_by))]
 pub fn parse_settings(line: &[u8]) -> Option<(u32, u32, u32, u32)>
     ensures { result ≡ settings_line line.now }
 {
@@ -81,6 +75,7 @@ fn by_sign(sign: u8, time: u32, tag: u32, value: u32) -> Option<Line>
 }
 
 // time,tag,sign,value
+#[tactic(auto, using(crate::specs::InputLaws::numbers_by))]
 pub fn parse_change(line: &[u8]) -> Option<Line>
     ensures { result ≡ change_line line.now }
 {

@@ -13,9 +13,6 @@ pub const LINE_ROOM: usize = 64;
 // A line, or what stands of it so far. There is room for every line.
 pub type OutputLine = ArrayVec<u8, LINE_ROOM>;
 
-// The least stored word of a reading below zero.
-const LEAST_BELOW: u32 = 2147483648;
-
 // "time,kind,first,second"
 pub fn names_line() -> OutputLine
     ensures { result.items ≡ output_names }
@@ -91,14 +88,14 @@ pub(crate) fn put_text(line: &mut OutputLine, text: &[u8])
     line.try_extend_from_slice(text).unwrap();
 }
 
-// A reading in tenths of a kN.
+// A reading in tenths of a kN. (The last digit by `as`, which is proved to fit: `try_from` would need an answer for what cannot be.)
 fn put_kn(line: &mut OutputLine, reading: u32)
     requires { array_vec_len line.old + 24 ≤ line_room }
     ensures kn { line.new.items ≡ line.old.items ++ kn_bytes reading }
     ensures most { array_vec_len line.new ≤ array_vec_len line.old + 13 }
 {
     let tenths = tenths_of(reading);
-    if LEAST_BELOW <= reading && 0 < tenths {
+    if reading.cast_signed().is_negative() && 0 < tenths {
         line.push(b'-');
     }
     put_number(line, tenths / 10);
@@ -110,10 +107,6 @@ fn put_kn(line: &mut OutputLine, reading: u32)
 fn tenths_of(reading: u32) -> u64
     ensures { result ≡ tenths_of reading }
 {
-    let size = if reading < LEAST_BELOW {
-        reading
-    } else {
-        u32::MAX - reading + 1
-    };
+    let size = reading.cast_signed().unsigned_abs();
     (u64::from(size) + 5) / 10
 }

@@ -1,9 +1,8 @@
 // The windows of a worked case: NAME.windows, if there is one, over the store that NAME.in leaves. After its names line each window is asked on a line
 // of its own, with how many rows it must give or its refusal; behind it stand those rows, each as the input line that set it or gave its reading.
 use crate::{System, case};
-use console_io::{LIST, ROWS, STORE};
 use console_run::feed::{Console, next_number};
-use console_run::lent::LentWords;
+use console_run::lent::{LIST, LentWords, ROWS, STORE};
 use console_text::gather::Gather;
 use console_text::parse;
 use console_text::parse::Line;

@@ -3,4 +3,4 @@ use Rattle.console_io.specs.SessionLaws.{finished}
 use Rattle.console_io.proofs.Session.finish.Goals as goal
 
 pub returns : goal.returns
-returns c = finished _ _ c.last-step.ensures.takes c.print_said-printed.ensures c.at_end-missing.ensures c.print_said.ensures
+returns c = finished _ _ _ c.last-step.ensures.takes c.print_said-printed.ensures c.at_end-missing.ensures c.print_said.ensures
