@@ -59,7 +59,7 @@
  *  - each pointer is aligned and not null, also where its number of words is 0, and has that many words behind it;
  *  - store, rows, list, journal and answer do not overlap;
  *  - nothing else writes the lent words, or reads those that the call writes, until it returns;
- *  - there is stack: a look-back's visits nest up to B - 1 deep on crafted words, some 70 bytes each on x86-64 (0.3 MB
+ *  - there is stack: a look-back's visits nest up to B - 1 deep on crafted words, some 55 bytes each on x86-64 (0.3 MB
  *    for B = 4096); a window takes some 17 KB, for an array of 4096 words; the other calls take less than 1 KB.
  *
  * THREADS. There are no globals and no locks. Calls on different stores have nothing to do with one another. On one

@@ -7,7 +7,7 @@
 //!
 //! Why this is safe: a slice is passed as its pointer and its number of words (include/register.h), and the proofs
 //! assume of a caller what Rust's borrows give: the words are there, aligned, and no two lent parts overlap while one
-//! of them is written. A look-back may take 70 bytes of stack for each of B blocks; a thread's usual 2 MB hold 4,096.
+//! of them is written. A look-back may take 55 bytes of stack for each of B blocks; a thread's usual 2 MB hold 4,096.
 //! A window takes some 17 KB.
 //!
 //! ```

@@ -71,7 +71,7 @@
 //! # Threads
 //!
 //! There is no hidden state: different stores have nothing to do with one another, and Rust's borrows give the rule for
-//! one store: look-backs and windows side by side, or one change. A look-back takes up to some 70 bytes of stack for
+//! one store: look-backs and windows side by side, or one change. A look-back takes up to some 55 bytes of stack for
 //! each block of the settings on damaged words, 0.3 MB for 4,096 blocks; a window some 17 KB; the other calls take less
 //! than 1 KB.
 #![no_std]
