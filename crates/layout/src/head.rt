@@ -123,14 +123,14 @@ impl Head {
 
 // Words that are long enough for a head, right or wrong.
 #[derive(Clone, Copy)]
-struct HeadWords<'a> {
-    words: &'a [u32],
-    ghost long: { head_len ≤ length words.now },
+pub struct HeadWords<'a> {
+    pub words: &'a [u32],
+    pub ghost long: { head_len ≤ length words.now },
 }
 
 impl HeadWords<'_> {
     // The head that they hold.
-    fn head(&self) -> Head
+    pub fn head(&self) -> Head
         ensures { result ≡ head_of self.now.words.now }
     {
         let words = self.words;
