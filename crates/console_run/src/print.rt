@@ -6,7 +6,7 @@ ghost use Rattle.console_run.specs.PrintLaws.{line_count, slice_line};
 use crate::turn::{Said, Stage};
 use console_text::print;
 use console_text::print::OutputLine;
-pub use layout::ROW_LEN;
+use layout::ROW_LEN;
 
 // At the end of the input: one of the first three lines is missing, or nothing is.
 pub fn at_end(stage: Stage) -> Said

@@ -6,7 +6,7 @@ ghost use Rattle.console_text.specs.Fields.{fields_of, four, four_of, fields_vie
 use crate::decimal::{reading, word};
 use itertools::Itertools;
 
-// A line after the third. A reading is its stored word.
+// A line after the third. A reading is its stored word. (Beside `Call` of applying: this crate reads text, and rests on no crate of the register.)
 #[derive(Clone, Copy)]
 pub enum Line {
     // time, tag, reading

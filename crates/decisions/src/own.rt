@@ -37,6 +37,7 @@ pub(crate) fn test_set(found: &Opened, tag: u32) -> Result<(), Refusal>
     if beyond_tags(found, tag) {
         return Err(Refusal::Tag);
     }
+    // (A word of the store, as in `test_clear`.)
     if found.read(Address::Dir(tag)) != 0 {
         return Err(Refusal::Standing);
     }

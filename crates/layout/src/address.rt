@@ -2,7 +2,8 @@
 //
 // Store and settings stay two arguments, and that the one holds the other (`Held`) a clause: what changes a store borrows it mutably, and a struct that
 // held that borrow could come back with another slice, so each contract would say besides that it is the same. (For reads: `queries::Opened`.) That a
-// block, a slot or an address is one of the layout's (`Numbered`, `Spot`, `Valid`) is a clause too: it says how numbers stand to the settings beside them.
+// block, a slot or an address is one of the layout's (`Numbered`, `Spot`, `Valid`) is a clause too: it says how numbers stand to the settings beside them, and
+// a struct of both would be made for the call and taken apart in its first line. (Where such a number is handed on and on: `decisions::block::Block`.)
 ghost use Rattle.std.specs.Prelude.{◌≡◌};
 ghost use Rattle.layout.specs.Address.{Numbered, Valid};
 ghost use Rattle.layout.specs.Program.{get!, set!, wipe! };
@@ -32,7 +33,7 @@ pub enum Address {
     Slot(u32, u32, u32),
 }
 
-// Where a level of the index starts.
+// Where a level of the index starts. (A level is a number: the search counts down by it, and addresses name it.)
 pub(crate) fn level_start(l: u32) -> usize
     ensures { LevelAt l result }
 {

@@ -6,7 +6,8 @@ ghost use Rattle.layout.specs.SettingsLaws.{BlockLong, StoreLong};
 use crate::refusal::Refusal;
 use crate::sizes;
 
-// That settings are within their limits stays a clause (`Within`): a head that is read may have others, and the definitions speak of any words.
+// That settings are within their limits stays a clause (`Within`): those that a caller asks for and those that words hold may be others, and a type for
+// the ones within would ask more of callers. The tests are one after the other, and not one expression, so that each line is one limit of document 01.
 #[derive(Clone, Copy, Debug, PartialEq, Eq)]
 pub struct Settings {
     // b: records in a block

@@ -136,7 +136,8 @@ impl Standing {
         self.low == 0 && self.high == 0
     }
 
-    // The first slot that stands; 64 where none does, as a word of 32 bits has 32 zeros at its end. (No `Option`: `split_first` has tested.)
+    // The first slot that stands; 64 where none does, as a word of 32 bits has 32 zeros at its end. (No `Option`: it was public and could not fail, and
+    // `split_first`, which gives one, has tested.)
     pub fn first(self) -> u32
         ensures { result ≡ first_slot self }
     {

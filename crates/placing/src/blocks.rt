@@ -1,5 +1,6 @@
 // A block opens, and a block leaves the row of open blocks.
-// (`Able` stays a clause, as in moves.rt: each function asks that its own program meets addresses of the layout only, another fact for each.)
+// (`Able` stays a clause, as in moves.rt: each function asks that its own program meets addresses of the layout only, another fact for each. Store, head
+// and second stay three arguments: what held the mutable borrow could come back with another slice, as layout/src/address.rt says.)
 #![tactic(auto, using(crate::proofs::Following::follows), unfolding(calls::specs::Placing::enter_time, calls::specs::Placing::open_block, calls::specs::Placing::unlink))]
 
 ghost use Rattle.std.specs.Prelude.{◌<◌};

@@ -1,5 +1,6 @@
 // What an accepted change or clock move does to the store: the head is moved on, its clock at the call's second, stored and handed back.
-// (`Able` stays a clause, as in moves.rt: each function asks that its own program meets addresses of the layout only, another fact for each.)
+// (`Able` stays a clause, as in moves.rt: each function asks that its own program meets addresses of the layout only, another fact for each. Store, head
+// and second stay three arguments: what held the mutable borrow could come back with another slice, as layout/src/address.rt says.)
 #![tactic(auto, using(crate::proofs::Following::follows), unfolding(calls::specs::Placing::clear_tag, calls::specs::Placing::finish, calls::specs::Placing::set_program, calls::specs::Placing::clear_program, calls::specs::Placing::update_program, calls::specs::Placing::advance_program))]
 
 ghost use Rattle.layout.specs.Moved.{Moved};

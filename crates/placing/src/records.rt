@@ -1,5 +1,6 @@
 // A record is placed, ends, and moves to the acceptor.
-// (`Able` stays a clause, as in moves.rt: each function asks that its own program meets addresses of the layout only, another fact for each.)
+// (`Able` stays a clause, as in moves.rt: each function asks that its own program meets addresses of the layout only, another fact for each. Store, head
+// and second stay three arguments: what held the mutable borrow could come back with another slice, as layout/src/address.rt says.)
 #![tactic(auto, using(crate::proofs::Following::follows), unfolding(calls::specs::Placing::end_record, calls::specs::Placing::put_record, calls::specs::Placing::move_record))]
 
 ghost use Rattle.layout.specs.Ran.{Ran};

@@ -1,6 +1,7 @@
 // THE REGISTER, the public face: any of the six calls as one value (apply), a store rebuilt from a journal (replay), and by numbers the six
 // calls and the window, each proved equal to its definition (calls.specs.Step), the replay, and how many words a store takes. `register_c` exports
-// these last ones to C and Rust.
+// these last ones to C and Rust. (Numbers and arrays that are filled stay here, 0 for what is accepted or for no words and OPEN for no page: C has no
+// other form, and include/register.h promises these.)
 #![tactic(auto)]
 
 mod journal;

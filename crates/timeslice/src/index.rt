@@ -1,4 +1,5 @@
-// The search in the index: from the top level's page down to the block that starts the path.
+// The search in the index: from the top level's page down to the block that starts the path. (Level and entry stay two numbers: each step goes to another
+// pair, and a struct of both would be taken apart in its first line.)
 ghost use Rattle.std.specs.Prelude.{◌≡◌, [], ◌-◌, ◌*◌, ◌≤◌, ◌<◌, min, length};
 ghost use Rattle.layout.specs.Sizes.{page_len};
 ghost use Rattle.calls.specs.Walk.{entries as entries_of, top_level, last_up_to};
@@ -9,7 +10,8 @@ use layout::{PAGE, parts};
 use queries::Unsound;
 
 // The block that starts the path, if there is one; how many pages are read, and on each level the page passed, if one is.
-// (How many are read stands beside them, counted on the way: that they are as many as the array has follows only since levels fall, which is the theory's.)
+// (How many are read stands beside them, counted on the way: to count them in the array would be no plainer, and that these are as many follows only since
+// levels fall, which is the theory's.)
 #[derive(Clone, Copy)]
 pub struct PathStart {
     pub block: Option<u32>,
@@ -94,6 +96,7 @@ impl Past<'_> {
         let count = on_page(self.opened.head.cursor.opened, l, e) as usize;
         let page = parts::page(parts::level(self.opened.store, l), e);
         let last = last_up_to(&page[..count], self.second)?;
+        // (By `as`: an entry's number on a page is below 16, and `try_from` would have a way out that nothing takes.)
         Some(last as u32)
     }
 

@@ -31,7 +31,7 @@ pub struct Slice {
 }
 
 impl Past<'_> {
-    // Refusals 5, 7 and 11, in order, for a store that was opened.
+    // Refusals 5, 7 and 11, in order, for a store that was opened. (`window` tests two of these too, each by one comparison: a function would say no more.)
     fn test(&self, rows: usize, list: usize) -> Result<(), Refusal>
         ensures { SliceRefusal self.now rows list result }
     {

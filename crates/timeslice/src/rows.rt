@@ -31,7 +31,8 @@ impl Past<'_> {
         Ok(given + 1)
     }
 
-    // The rows of a block, in slot order, of all its slots.
+    // The rows of a block, in slot order, of all its slots. (By number: an iterator of a block's records would be a type with laws of its own for this one
+    // loop. `window` makes the same record in its loop, but needs the number for the place.)
     pub(crate) fn take_rows(
         &self,
         block: &[u32],

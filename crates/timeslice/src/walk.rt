@@ -20,7 +20,8 @@ pub struct PathBlock {
 }
 
 // (The two buffers and what is counted in them stay three arguments: a struct of the two would hold two `&mut`, and each contract would have to say that
-// it still holds the same two.)
+// it still holds the same two. A link and the two numbers that it lies between stay three too: each visit has another pair, `number, upper` and then
+// `lower, number`, and a struct would be made anew for each.)
 impl Past<'_> {
     // A visit of a link: 0, which ends it, or a block strictly between lower and upper. The block is listed, and if it closes after the second, the visit
     // goes on inside it. It answers how many blocks are listed then. (Compiled into its callers, since most links lead nowhere or to a closed block. A link

@@ -14,6 +14,9 @@ use layout::settings::Settings;
 use layout::{fields, parts, place};
 use queries::Unsound;
 
+// For each tag the place of the record noted, 0 where none is.
+pub(crate) type Latest = [u32; Settings::MOST_TAGS as usize];
+
 // Opened by the last second and not closed by the first. (Here and below the two seconds come by value and no `&Span`: read behind a reference for each
 // slot, they made a window of the year execute 7 % more at b = 8 and 8 % more at b = 64, counted as rust/count.sh does.)
 fn is_read(block: &[u32], first: u32, last: u32) -> bool
@@ -38,7 +41,8 @@ fn stood_in(source: &Record, first: u32, last: u32) -> bool
 
 impl Span<'_> {
     // The later of the record noted at a place, if there is one, and a record of a greater place that stands from `from` on.
-    // (A place of 0 is none: places count from 1, and the array of them keeps one word a tag.)
+    // (A place of 0 is none: places count from 1, and the array keeps one word a tag. Of `Option`s, which have a tag of their own, it would take twice the
+    // stack, 33 KB for 16.5.)
     fn later(&self, noted: u32, place: u32, from: u32) -> u32
         requires { Named self.now.opened.head.settings noted }
         ensures { result ≡ later_place self.now.opened.head.settings (reader_of self.now) noted place from }
@@ -53,13 +57,7 @@ impl Span<'_> {
     }
 
     // Slot k of block n, whose words these are: a record that stood in the window with a tag of D or more is unsound.
-    fn note_slot(
-        &self,
-        block: &[u32],
-        n: u32,
-        k: u32,
-        best: &mut [u32; 4096],
-    ) -> Result<(), Unsound>
+    fn note_slot(&self, block: &[u32], n: u32, k: u32, best: &mut Latest) -> Result<(), Unsound>
         requires spot { Spot self.now.opened.head.settings n k }
         requires block_part { BlockPart self.now.opened.head.settings self.now.opened.store.now n block.now }
         requires noted_to { NotedTo self.now n k best.old }
@@ -84,7 +82,7 @@ impl Span<'_> {
     }
 
     // Block n, all its slots; nothing of a block that is not read.
-    fn note_block(&self, n: u32, best: &mut [u32; 4096]) -> Result<(), Unsound>
+    fn note_block(&self, n: u32, best: &mut Latest) -> Result<(), Unsound>
         requires numbered { Numbered self.now.opened.head.settings n }
         requires noted_blocks { NotedBlocks self.now (n - 1) best.old }
         ensures { NotesBlocks self.now n result best.new }
@@ -100,7 +98,7 @@ impl Span<'_> {
     }
 
     // All blocks opened.
-    pub(crate) fn note_blocks(&self, best: &mut [u32; 4096]) -> Result<(), Unsound>
+    pub(crate) fn note_blocks(&self, best: &mut Latest) -> Result<(), Unsound>
         requires { best.old ≡ replicate 4096 0 }
         ensures { NotesAll self.now result best.new }
     {

@@ -11,8 +11,10 @@ ghost use Rattle.calls.specs.Refusals.{is_open};
 ghost use Rattle.window.specs.Windowed.{Windowed, Answers, WindowRefusal};
 ghost use Rattle.window.specs.Noted.{LongRows};
 
+use latest::Latest;
 use layout::parts;
 use layout::refusal::Refusal;
+use layout::settings::Settings;
 use queries::Unsound;
 use span::Span;
 
@@ -49,7 +51,7 @@ impl Span<'_> {
         requires { LongRows self.now rows.old }
         ensures { Answers self.now rows.old result rows.new }
     {
-        let mut best = [0; 4096];
+        let mut best: Latest = [0; Settings::MOST_TAGS as usize];
         match self.note_blocks(&mut best) {
             Ok(()) => Ok(self.put_rows(&best, rows)),
             Err(Unsound) => {

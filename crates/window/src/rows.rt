@@ -4,6 +4,7 @@
 ghost use Rattle.std.specs.Prelude.{◌<◌};
 ghost use Rattle.window.specs.Noted.{reader_of, row_at, Named, AllNamed, LongRows, Puts, Rowed};
 
+use crate::latest::Latest;
 use crate::span::Span;
 use queries::rows;
 
@@ -23,7 +24,7 @@ impl Span<'_> {
     }
 
     // The rows of all tags below D; the words after them keep their contents.
-    pub(crate) fn put_rows(&self, best: &[u32; 4096], rows: &mut [u32]) -> u32
+    pub(crate) fn put_rows(&self, best: &Latest, rows: &mut [u32]) -> u32
         requires all_named { AllNamed self.now.opened.head.settings best.now }
         requires long_rows { LongRows self.now rows.old }
         ensures { Rowed self.now best.now self.now.opened.head.settings.tags rows.old result rows.new }
