@@ -33,7 +33,7 @@ impl fmt::Display for Difference {
 }
 
 impl Pair {
-    pub fn new() -> Pair {
+    pub(crate) fn new() -> Pair {
         Pair {
             store: Store::new(),
             other: Words::new(),
@@ -46,7 +46,7 @@ impl Pair {
     }
 
     // Both builds answered and left the same: of the stores all words that are lent, and those behind them.
-    pub fn compare(&self, one: Told, another: Told) -> Result<(), Difference> {
+    pub(crate) fn compare(&self, one: Told, another: Told) -> Result<(), Difference> {
         unless(one.err() == another.err(), Difference::Answers)?;
         unless(one == another, Difference::Heads)?;
         unless(

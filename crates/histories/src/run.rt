@@ -92,7 +92,7 @@ impl<'a> Run<'a> {
         if due.is_ok() {
             self.tally.count_blocks(&self.history.book);
             self.history.begin(settings);
-            self.store.keep_started(settings);
+            self.store.keep_started(settings.layout());
         }
         self.settle(due, AFTER_SETTINGS)
     }
