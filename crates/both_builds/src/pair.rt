@@ -18,7 +18,7 @@ pub enum Difference {
     NotDue = 4,
 }
 
-#[derive(Drop)]
+#[derive(Default, Drop)]
 pub struct Pair {
     // The store of the first build, with all that the model keeps of it.
     pub store: Store,
@@ -33,13 +33,6 @@ impl fmt::Display for Difference {
 }
 
 impl Pair {
-    pub(crate) fn new() -> Pair {
-        Pair {
-            store: Store::new(),
-            other: Words::new(),
-        }
-    }
-
     // The other build's store becomes the first build's.
     pub fn level(&mut self) {
         copy(&mut self.other, self.store.words());

@@ -118,7 +118,7 @@ impl<'a> Run<'a> {
         looked.agrees(&self.history, a, due)?;
         if due.is_ok() {
             self.tally.look_backs += 1;
-            self.tally.rows += looked.row_count();
+            self.tally.rows += looked.found.row_count();
             self.tally.listed += looked.list_count();
         }
         Ok(())

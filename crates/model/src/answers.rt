@@ -19,7 +19,8 @@ pub struct Refused<'a>(&'a [Count]);
 
 impl Answers {
     pub fn count(&mut self, answer: Answer)
-        ensures { counts_of self.new ≡ slice_set (counts_of self.old) (answer_number answer) (one_more (times self.old (answer_number answer))) }
+        ensures { let n = answer_number answer in
+            counts_of self.new ≡ slice_set (counts_of self.old) n (one_more (times self.old n)) }
     {
         self.0[number(answer) as usize] += 1;
     }

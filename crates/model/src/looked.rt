@@ -1,5 +1,5 @@
 // What a look-back left, against the log and the book.
-ghost use Rattle.std.specs.Prelude.{◌≡◌, slice_index, slice_index_or};
+ghost use Rattle.std.specs.Prelude.{◌≡◌, slice_index};
 ghost use Rattle.model.specs.Marks.{AreMarks};
 
 use crate::asked::LookBack;
@@ -36,9 +36,7 @@ impl Looked {
         }
     }
 
-    pub fn row_count(&self) -> u32
-        ensures { result ≡ slice_index_or self.now.found.answer 0 0 }
-    {
+    fn row_count(&self) -> u32 {
         self.found.row_count()
     }
 

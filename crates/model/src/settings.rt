@@ -1,5 +1,5 @@
 // The settings that the histories run with, and where the paper lays each word of a store with them.
-ghost use Rattle.std.specs.Prelude.{◌≡◌, ◌+◌, ◌*◌, ◌<◌, ◌↔◌, IsTrue};
+ghost use Rattle.std.specs.Prelude.{◌<◌, ◌↔◌, IsTrue};
 
 use std::ops::Range;
 
@@ -103,9 +103,7 @@ impl Settings {
     }
 
     // How many words a block has.
-    pub(crate) fn block_words(self) -> usize
-        ensures { result ≡ 8 + 5 * self.block }
-    {
+    pub(crate) fn block_words(self) -> usize {
         BLOCK_HEAD + RECORD_WORDS * self.block as usize
     }
 
@@ -129,9 +127,7 @@ impl Settings {
     }
 
     // How many words D rows have.
-    pub(crate) fn row_words(self) -> usize
-        ensures { result ≡ 3 * self.tags }
-    {
+    pub(crate) fn row_words(self) -> usize {
         ROW_WORDS * self.tags as usize
     }
 

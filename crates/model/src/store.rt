@@ -1,6 +1,6 @@
 // The store that is lent to the register, with some words behind the lent ones, which are compared too; and the store as it should be.
-ghost use Rattle.std.specs.Prelude.{◌≡◌, ◌<◌, ◌≤◌, ◌-◌, ◌++◌, [], drop, replicate, length, slice_index_or, take, IsTrue};
-ghost use Rattle.model.specs.Store.{words_of, kept_of, honest_of, keeping, ended, restored};
+ghost use Rattle.std.specs.Prelude.{◌≡◌, ◌<◌, ◌≤◌, ◌-◌, ◌++◌, drop, replicate, length, slice_index_or, take, IsTrue};
+ghost use Rattle.model.specs.Store.{words_of, kept_of, honest_of};
 
 use crate::buffer;
 use crate::settings::{FILL_WORD, OPENED_WORD, Settings};
@@ -17,7 +17,7 @@ pub const AFTER_SETTINGS: usize = 5;
 
 pub type Words = ArrayVec<u32, MOST>;
 
-#[derive(Drop)]
+#[derive(Default, Drop)]
 pub struct Store {
     words: Words,
     // The words as the last call had to leave them, or as the next call finds them.
@@ -45,18 +45,6 @@ fn put_zeros(words: &mut [u32], from: usize, to: usize)
 }
 
 impl Store {
-    pub fn new() -> Store
-        ensures words { words_of result ≡ [] }
-        ensures kept { kept_of result ≡ [] }
-        ensures honest { honest_of result ≡ [] }
-    {
-        Store {
-            words: ArrayVec::new(),
-            kept: ArrayVec::new(),
-            honest: ArrayVec::new(),
-        }
-    }
-
     // A store of marks, of which a history lends so many words.
     pub fn begin(&mut self, length: usize) {
         self.words.clear();
@@ -101,7 +89,9 @@ impl Store {
 
     // The store is kept as it is.
     pub fn keep(&mut self)
-        ensures { self.new ≡ keeping self.old }
+        ensures kept { kept_of self.new ≡ words_of self.old }
+        ensures words { words_of self.new ≡ words_of self.old }
+        ensures honest { honest_of self.new ≡ honest_of self.old }
     {
         copy(&mut self.kept, self.words.as_slice());
     }
@@ -128,14 +118,18 @@ impl Store {
 
     // The history has ended: its words are honest.
     pub fn end(&mut self)
-        ensures { self.new ≡ ended self.old }
+        ensures honest { honest_of self.new ≡ words_of self.old }
+        ensures words { words_of self.new ≡ words_of self.old }
+        ensures kept { kept_of self.new ≡ kept_of self.old }
     {
         copy(&mut self.honest, self.words.as_slice());
     }
 
     // The words are those that the history left.
     pub(crate) fn restore(&mut self)
-        ensures { self.new ≡ restored self.old }
+        ensures words { words_of self.new ≡ honest_of self.old }
+        ensures kept { kept_of self.new ≡ kept_of self.old }
+        ensures honest { honest_of self.new ≡ honest_of self.old }
     {
         copy(&mut self.words, self.honest.as_slice());
     }
