@@ -42,7 +42,7 @@ impl Burst {
     }
 
     // One call of a burst is made, which is mostly of this kind; after the last call another burst begins.
-    pub fn next(&mut self, history: &mut History) -> Kind {
+    pub(crate) fn next(&mut self, history: &mut History) -> Kind {
         if self.left == 0 {
             *self = Burst::begin(history);
         }
@@ -51,7 +51,7 @@ impl Burst {
     }
 
     // A change with the burst's tag, if it is a new reading and the burst has one.
-    pub fn with_tag(self, c: Change) -> Change {
+    pub(crate) fn with_tag(self, c: Change) -> Change {
         match (c.action, self.tag) {
             (Action::Update { reading, .. }, Some(tag)) => Change {
                 action: Action::Update { tag, reading },

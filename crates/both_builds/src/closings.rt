@@ -54,7 +54,7 @@ impl<'a> Words<'a> {
 
 impl Closings {
     // What a change of this kind closed and moved, since the store was kept.
-    pub fn of(store: &Store, kind: Kind) -> Closings {
+    pub(crate) fn of(store: &Store, kind: Kind) -> Closings {
         let words = Words {
             before: store.kept(),
             after: store.words(),

@@ -30,7 +30,7 @@ const HISTORIES: u16 = 4000;
 const LONG_HISTORIES: u16 = 16;
 
 // What all histories share.
-#[derive(Drop)]
+#[derive(Default, Drop)]
 struct Shared {
     pair: Pair,
     tally: Tally,
@@ -62,10 +62,7 @@ impl Plays for Shared {
 }
 
 fn main() {
-    let mut shared = Shared {
-        pair: Pair::new(),
-        tally: Tally::default(),
-    };
+    let mut shared = Shared::default();
     let mut notes = Notes::default();
     let played = play_all(&mut shared, &mut notes, HISTORIES, LONG_HISTORIES);
     print(format_args!("histories {played}\n"));

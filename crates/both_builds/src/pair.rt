@@ -18,7 +18,7 @@ pub enum Difference {
     NotDue = 4,
 }
 
-#[derive(Drop)]
+#[derive(Default, Drop)]
 pub struct Pair {
     // The store of the first build, with all that the model keeps of it.
     pub store: Store,
@@ -33,20 +33,13 @@ impl fmt::Display for Difference {
 }
 
 impl Pair {
-    pub fn new() -> Pair {
-        Pair {
-            store: Store::new(),
-            other: Words::new(),
-        }
-    }
-
     // The other build's store becomes the first build's.
     pub fn level(&mut self) {
         copy(&mut self.other, self.store.words());
     }
 
     // Both builds answered and left the same: of the stores all words that are lent, and those behind them.
-    pub fn compare(&self, one: Told, another: Told) -> Result<(), Difference> {
+    pub(crate) fn compare(&self, one: Told, another: Told) -> Result<(), Difference> {
         unless(one.err() == another.err(), Difference::Answers)?;
         unless(one == another, Difference::Heads)?;
         unless(

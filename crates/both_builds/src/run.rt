@@ -97,7 +97,7 @@ impl<'a> Run<'a> {
     }
 
     // A change on both stores.
-    pub fn made(&mut self, c: Change) -> Called {
+    pub(crate) fn made(&mut self, c: Change) -> Called {
         self.notes.begin_call();
         let (one, another) = self.pair.change(c);
         self.compared(one, another)

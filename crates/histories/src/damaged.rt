@@ -91,7 +91,7 @@ impl<'a> Run<'a> {
         let got = called::start(self.store, self.history.length, s);
         self.damaged_answered(Call::Start, got)?
             .map_err(|_| Finding::Never)?;
-        self.store.keep_started(s);
+        self.store.keep_started(s.layout());
         self.damaged_left(AFTER_SETTINGS)
     }
 

@@ -26,7 +26,7 @@ const CALLS: u32 = 200;
 const LONG_HISTORIES: u16 = 24;
 
 // What all histories share.
-#[derive(Drop)]
+#[derive(Default, Drop)]
 struct Shared {
     store: Store,
     tally: Tally,
@@ -50,10 +50,7 @@ impl Plays for Shared {
 }
 
 fn main() {
-    let mut shared = Shared {
-        store: Store::new(),
-        tally: Tally::default(),
-    };
+    let mut shared = Shared::default();
     let mut notes = Notes::default();
     let played = play_all(&mut shared, &mut notes, HISTORIES, LONG_HISTORIES);
     print(format_args!("histories {played}\n"));

@@ -92,7 +92,7 @@ impl<'a> Run<'a> {
         if due.is_ok() {
             self.tally.count_blocks(&self.history.book);
             self.history.begin(settings);
-            self.store.keep_started(settings);
+            self.store.keep_started(settings.layout());
         }
         self.settle(due, AFTER_SETTINGS)
     }
@@ -118,7 +118,7 @@ impl<'a> Run<'a> {
         looked.agrees(&self.history, a, due)?;
         if due.is_ok() {
             self.tally.look_backs += 1;
-            self.tally.rows += looked.row_count();
+            self.tally.rows += looked.found.row_count();
             self.tally.listed += looked.list_count();
         }
         Ok(())

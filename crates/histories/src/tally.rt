@@ -31,7 +31,7 @@ struct Windows<'a>(&'a Answers, &'static str, &'static str);
 
 impl Tally {
     // Counts the blocks of a book that ends.
-    pub fn count_blocks(&mut self, book: &Book) {
+    pub(crate) fn count_blocks(&mut self, book: &Book) {
         self.opened += book.opened();
         self.closed += book.closed();
         self.most_opened = self.most_opened.max(book.opened());

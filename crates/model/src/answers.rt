@@ -1,4 +1,8 @@
 // How often each answer came.
+ghost use Rattle.std.specs.Prelude.{◌≡◌, ◌-◌, ◌^◌, min, drop, slice_set, sum_by};
+ghost use Rattle.model.specs.Numbers.{answer_number};
+ghost use Rattle.model.specs.Answers.{counts_of, times, one_more, counts_in};
+
 use crate::refusal::{Answer, number};
 use std::fmt;
 use std::num::Saturating;
@@ -14,14 +18,17 @@ pub struct Answers([Count; 15]);
 pub struct Refused<'a>(&'a [Count]);
 
 impl Answers {
-    pub fn count(&mut self, answer: Answer) {
-        if let Some(count) = self.0.get_mut(number(answer) as usize) {
-            *count += 1;
-        }
+    pub fn count(&mut self, answer: Answer)
+        ensures { let n = answer_number answer in
+            counts_of self.new ≡ slice_set (counts_of self.old) n (one_more (times self.old n)) }
+    {
+        self.0[number(answer) as usize] += 1;
     }
 
     // How many answers there were.
-    pub fn all(&self) -> Count {
+    pub fn all(&self) -> Count
+        ensures { result.0 ≡ min (sum_by (λ count. count.0) (counts_of self.now)) (2 ^ 32 - 1) }
+    {
         let mut all = Saturating(0);
         for count in &self.0 {
             all += *count;
@@ -29,15 +36,21 @@ impl Answers {
         all
     }
 
-    pub fn accepted(&self) -> Count {
+    pub fn accepted(&self) -> Count
+        ensures { result ≡ times self.now 0 }
+    {
         self.0[0]
     }
 
-    pub fn counts(&self) -> &[Count] {
+    pub fn counts(&self) -> &[Count]
+        ensures { result.now ≡ counts_of self.now }
+    {
         &self.0
     }
 
-    pub fn refused(&self) -> Refused<'_> {
+    pub fn refused(&self) -> Refused<'_>
+        ensures { counts_in result ≡ drop 1 (counts_of self.now) }
+    {
         Refused(&self.0[1..])
     }
 }

@@ -1,4 +1,6 @@
 // What is asked of the register, as it is drawn.
+ghost use Rattle.std.specs.Prelude.{◌≡◌};
+ghost use Rattle.model.specs.Asked.{tag_of};
 
 // The kinds of changes: an update is a new reading, an advance a clock move. (An `Action` has them too: a kind is drawn before what it takes.)
 #[derive(Clone, Copy, PartialEq, Eq)]
@@ -65,7 +67,9 @@ impl Action {
     }
 
     // A clock move has no tag.
-    pub fn tag(self) -> Option<u32> {
+    pub fn tag(self) -> Option<u32>
+        ensures { result ≡ tag_of self }
+    {
         match self {
             Action::Set { tag, .. } | Action::Clear { tag } | Action::Update { tag, .. } => Some(
                 tag,

@@ -1,6 +1,8 @@
 // The block book of the paper, written from its text alone: blocks in order, from 1, each with an opening second and a closing second or none,
 // and records in order. Before a block opens, the one before it has b records: so a record's place, counted from 1 through all blocks, tells
 // its block and its slot. A tag has one standing record at most.
+ghost use Rattle.std.specs.Prelude.{◌≡◌, count_by, is_some, length};
+
 use crate::asked::Action;
 use crate::refusal::{Answer, Refusal};
 use crate::settings::Settings;
@@ -34,13 +36,13 @@ pub struct Book {
 
 impl Block {
     // "A block is open at t if opened ≤ t < closed."
-    pub fn is_open_at(self, t: u32) -> bool {
+    pub(crate) fn is_open_at(self, t: u32) -> bool {
         self.opened <= t && self.closed.is_none_or(|closed| t < closed)
     }
 }
 
 impl Book {
-    pub fn new(settings: Settings) -> Book {
+    pub(crate) fn new(settings: Settings) -> Book {
         Book {
             settings,
             blocks: ArrayVec::new(),
@@ -50,44 +52,48 @@ impl Book {
     }
 
     // How many blocks there are.
-    pub fn opened(&self) -> u32 {
+    pub fn opened(&self) -> u32
+        ensures { result ≡ length self.now.blocks.items }
+    {
         u32::try_from(self.blocks.len()).unwrap()
     }
 
     // How many records were placed.
-    pub fn placed(&self) -> u32 {
+    pub(crate) fn placed(&self) -> u32 {
         u32::try_from(self.tags.len()).unwrap()
     }
 
     // How many blocks were opened by t, and how many of them are open at t.
-    pub fn opened_by(&self, t: u32) -> u32 {
+    pub(crate) fn opened_by(&self, t: u32) -> u32 {
         let opened = self.blocks.iter().filter(|block| block.opened <= t);
         u32::try_from(opened.count()).unwrap()
     }
 
-    pub fn open_at(&self, t: u32) -> u32 {
+    pub(crate) fn open_at(&self, t: u32) -> u32 {
         let open = self.blocks.iter().filter(|block| block.is_open_at(t));
         u32::try_from(open.count()).unwrap()
     }
 
-    pub fn closed(&self) -> u32 {
+    pub fn closed(&self) -> u32
+        ensures { result ≡ count_by (λ block. is_some block.closed) self.now.blocks.items }
+    {
         let closed = self.blocks.iter().filter(|block| block.closed.is_some());
         u32::try_from(closed.count()).unwrap()
     }
 
     // For each tag the place of its standing record.
-    pub fn places(&self) -> &[Option<u32>] {
+    pub(crate) fn places(&self) -> &[Option<u32>] {
         let tags = (self.settings.tags as usize).min(MOST_TAGS);
         &self.places[..tags]
     }
 
     // The tag of the record at a place, if there is one.
-    pub fn tag_at(&self, place: u32) -> Option<u32> {
+    pub(crate) fn tag_at(&self, place: u32) -> Option<u32> {
         self.tags.get(place.checked_sub(1)? as usize).copied()
     }
 
     // The place of a tag's standing record, if it stands.
-    pub fn place_of(&self, tag: u32) -> Option<u32> {
+    pub(crate) fn place_of(&self, tag: u32) -> Option<u32> {
         self.places.get(tag as usize).copied().flatten()
     }
 
@@ -212,7 +218,7 @@ impl Book {
 
     // A set, a clear, or a new reading: "the clear, then the set". It is made in the book, and taken back where the book would then have more
     // than B blocks. (The former book is copied onto the stack, which does not fail.)
-    pub fn take(&mut self, second: u32, action: Action) -> Answer {
+    pub(crate) fn take(&mut self, second: u32, action: Action) -> Answer {
         let Ok(former) = self.clone() else {
             return Err(Refusal::OutOfBlocks);
         };

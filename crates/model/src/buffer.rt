@@ -1,32 +1,36 @@
 // What a look-back or a window is lent for rows or for its list: marks, so that it is seen what was written.
+ghost use Rattle.std.specs.Prelude.{◌≡◌, take};
+ghost use Rattle.model.specs.Marks.{AreMarks};
+
 use crate::refusal::Refusal;
-use crate::words::marks;
+use crate::words::mark;
+use std::array;
 
 // Longer than any part that is lent of it.
 pub type Buffer = [u32; 640];
 
 // Each word is the mark of its place: a buffer, or the words of an answer.
-pub fn marked<const N: usize>() -> [u32; N] {
-    let mut words = [0; N];
-    for (word, mark) in words.iter_mut().zip(marks()) {
-        *word = mark;
-    }
-    words
+pub(crate) fn marked<const N: usize>() -> [u32; N]
+    ensures { AreMarks result }
+{
+    array::from_fn(mark)
 }
 
 // The first words of a buffer: as many as are asked for, or all that there are.
-pub fn lent(buffer: &mut [u32], length: usize) -> &mut [u32] {
+pub fn lent(buffer: &mut [u32], length: usize) -> &mut [u32]
+    ensures { result.now ≡ take length buffer.old }
+{
     let end = length.min(buffer.len());
     &mut buffer[..end]
 }
 
 // From a word on all are marks.
-pub fn is_marked_from(words: &[u32], from: usize) -> bool {
+pub(crate) fn is_marked_from(words: &[u32], from: usize) -> bool {
     words
         .iter()
-        .zip(marks())
+        .enumerate()
         .skip(from)
-        .all(|(word, mark)| *word == mark)
+        .all(|(place, word)| *word == mark(place))
 }
 
 // A refused query leaves all of a buffer; but one that finds the store unsound fills what it was lent of it with zeros.

@@ -1,5 +1,6 @@
 // What a query left of what it was lent, which were marks: a buffer of rows, and the words of its answer. The first of these tells how many rows.
 ghost use Rattle.std.specs.Prelude.{◌≡◌, slice_index_or};
+ghost use Rattle.model.specs.Marks.{AreMarks};
 
 use crate::buffer::{Buffer, is_left, is_marked_from, marked};
 use crate::refusal::Refusal;
@@ -12,7 +13,10 @@ pub struct Found<const N: usize> {
 }
 
 impl<const N: usize> Found<N> {
-    pub fn marked() -> Found<N> {
+    pub fn marked() -> Found<N>
+        ensures rows { AreMarks result.rows }
+        ensures answer { AreMarks result.answer }
+    {
         Found {
             rows: marked(),
             answer: marked(),

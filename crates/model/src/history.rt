@@ -23,7 +23,7 @@ pub struct History {
 
 impl History {
     // Nothing is started yet. The store is lent as long as the layout or somewhat longer.
-    pub fn new(mut random: Random, settings: Settings) -> History {
+    pub(crate) fn new(mut random: Random, settings: Settings) -> History {
         let more = random.below(80).saturating_sub(40) as usize;
         let late = random.once_in(8);
         History {

@@ -32,7 +32,7 @@ pub struct Log {
 
 impl Row {
     // Its words in a row buffer.
-    pub fn words(self) -> [u32; 3] {
+    pub(crate) fn words(self) -> [u32; 3] {
         [self.tag, self.reading, self.since]
     }
 }
@@ -54,7 +54,7 @@ impl Entry {
 }
 
 impl Log {
-    pub fn new() -> Log {
+    pub(crate) fn new() -> Log {
         Log {
             entries: ArrayVec::new(),
         }
@@ -77,7 +77,7 @@ impl Log {
     }
 
     // How many sets and new readings there are.
-    pub fn sets(&self) -> usize {
+    pub(crate) fn sets(&self) -> usize {
         self.entries
             .iter()
             .filter(|entry| entry.reading.is_some())
@@ -113,7 +113,7 @@ impl Log {
     }
 
     // The state at t, by tag.
-    pub fn state(&self, tags: u32, t: u32) -> Rows {
+    pub(crate) fn state(&self, tags: u32, t: u32) -> Rows {
         rows(tags, |tag| self.state_at(tag, t))
     }
 

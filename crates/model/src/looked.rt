@@ -1,4 +1,7 @@
 // What a look-back left, against the log and the book.
+ghost use Rattle.std.specs.Prelude.{◌≡◌, slice_index};
+ghost use Rattle.model.specs.Marks.{AreMarks};
+
 use crate::asked::LookBack;
 use crate::book::Book;
 use crate::buffer::{Buffer, is_left, is_marked_from, marked};
@@ -22,18 +25,24 @@ pub struct Looked {
 const LEVELS: [(u32, u32); 3] = [(0, 16), (16, 256), (256, 4096)];
 
 impl Looked {
-    pub fn marked() -> Looked {
+    pub fn marked() -> Looked
+        ensures rows { AreMarks result.found.rows }
+        ensures answer { AreMarks result.found.answer }
+        ensures list { AreMarks result.list }
+    {
         Looked {
             found: Found::marked(),
             list: marked(),
         }
     }
 
-    pub fn row_count(&self) -> u32 {
+    fn row_count(&self) -> u32 {
         self.found.row_count()
     }
 
-    pub fn list_count(&self) -> u32 {
+    pub fn list_count(&self) -> u32
+        ensures { result ≡ slice_index self.now.found.answer 2 }
+    {
         self.found.answer[2]
     }
 

@@ -1,4 +1,7 @@
 // What did not agree, and where. The first twenty notes are printed.
+ghost use Rattle.std.specs.Prelude.{◌≡◌};
+ghost use Rattle.model.specs.Notes.{begun, noted};
+
 use crate::answers::Count;
 use crate::out::print;
 use std::fmt::Display;
@@ -12,16 +15,20 @@ pub struct Notes {
 }
 
 impl Notes {
-    pub fn begin_history(&mut self, history: u32) {
+    pub(crate) fn begin_history(&mut self, history: u32) {
         self.history = history;
         self.call = Count::default();
     }
 
-    pub fn begin_call(&mut self) {
+    pub fn begin_call(&mut self)
+        ensures { self.new ≡ begun self.old }
+    {
         self.call += 1;
     }
 
-    pub fn note<T: Display + Drop>(&mut self, what: T) {
+    pub fn note<T: Display + Drop>(&mut self, what: T)
+        ensures { self.new ≡ noted self.old }
+    {
         self.mismatches += 1;
         if self.mismatches.0 <= 20 {
             print(format_args!("mismatch {} {} {what}\n", self.history, self.call));

@@ -6,7 +6,7 @@ pub struct Random(u64);
 
 impl Random {
     // A state that depends on every bit of the seed.
-    pub fn seeded(seed: u32) -> Random {
+    pub(crate) fn seeded(seed: u32) -> Random {
         let mixed = (u64::from(seed) + 1) * 2654435769 ^ 11400714819323198485;
         let mut random = Random(mixed);
         for _ in 0..4 {

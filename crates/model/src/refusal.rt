@@ -1,5 +1,7 @@
 // Why a call is turned away, with the paper's numbers. They are named as the register's own (layout/src/refusal.rt), and written anew so that a
 // wrong number there is found here.
+ghost use Rattle.std.specs.Prelude.{◌≡◌, ◌≤◌, ◌↔◌, IsOk, IfOk, IfErr};
+ghost use Rattle.model.specs.Numbers.{refusal_number, answer_number, Names};
 
 #[derive(Clone, Copy, PartialEq, Eq)]
 pub enum Refusal {
@@ -27,6 +29,8 @@ pub struct UnknownRefusal(pub u32);
 pub type Answer = Result<(), Refusal>;
 
 impl From<Refusal> for u32 {
+    ghost from_gives = { λ refusal n. n ≡ refusal_number refusal };
+
     fn from(refusal: Refusal) -> u32 {
         refusal as u32
     }
@@ -34,6 +38,8 @@ impl From<Refusal> for u32 {
 
 impl TryFrom<u32> for Refusal {
     type Error = UnknownRefusal;
+
+    ghost try_from_gives = { Names };
 
     fn try_from(number: u32) -> Result<Refusal, UnknownRefusal> {
         match number {
@@ -57,14 +63,21 @@ impl TryFrom<u32> for Refusal {
 }
 
 // The number of an answer: 0 for an accepted call.
-pub fn number(answer: Answer) -> u32 {
+pub(crate) fn number(answer: Answer) -> u32
+    ensures number { result ≡ answer_number answer }
+    ensures most { result ≤ 14 }
+{
     answer.err().map_or(0, u32::from)
 }
 
 // What a call answered by a number: any that is none of the answers' is an error.
 pub type Called = Result<Answer, UnknownRefusal>;
 
-pub fn numbered(number: u32) -> Called {
+pub fn numbered(number: u32) -> Called
+    ensures known { IsOk result ↔ (number ≤ 14) }
+    ensures same { IfOk result (λ answer. answer_number answer ≡ number) }
+    ensures unknown { IfErr result (λ unknown. unknown.0 ≡ number) }
+{
     if number == 0 {
         Ok(Ok(()))
     } else {

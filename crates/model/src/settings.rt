@@ -1,4 +1,6 @@
 // The settings that the histories run with, and where the paper lays each word of a store with them.
+ghost use Rattle.std.specs.Prelude.{◌<◌, ◌↔◌, IsTrue};
+
 use std::ops::Range;
 
 #[derive(Clone, Copy, PartialEq, Eq)]
@@ -40,7 +42,7 @@ pub const RECORD_WORDS: usize = 5;
 pub const ROW_WORDS: usize = 3;
 
 impl Settings {
-    pub fn new(block: u32, useful: u32, blocks: u32, tags: u32) -> Settings {
+    pub(crate) fn new(block: u32, useful: u32, blocks: u32, tags: u32) -> Settings {
         Settings {
             block,
             useful,
@@ -94,12 +96,14 @@ impl Settings {
     }
 
     // The settings have three levels of the index.
-    pub fn is_long(self) -> bool {
+    pub fn is_long(self) -> bool
+        ensures { IsTrue result ↔ (256 < self.blocks) }
+    {
         256 < self.blocks
     }
 
     // How many words a block has.
-    pub fn block_words(self) -> usize {
+    pub(crate) fn block_words(self) -> usize {
         BLOCK_HEAD + RECORD_WORDS * self.block as usize
     }
 
@@ -123,7 +127,7 @@ impl Settings {
     }
 
     // How many words D rows have.
-    pub fn row_words(self) -> usize {
+    pub(crate) fn row_words(self) -> usize {
         ROW_WORDS * self.tags as usize
     }
 
@@ -138,7 +142,7 @@ impl Settings {
         n.saturating_sub(1).saturating_mul(self.block)
     }
 
-    pub fn places(self, n: u32) -> Range<u32> {
+    pub(crate) fn places(self, n: u32) -> Range<u32> {
         let first = self.before(n).saturating_add(1);
         first..first.saturating_add(self.block)
     }

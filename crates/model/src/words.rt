@@ -1,10 +1,13 @@
 // Words that mean something, and marks.
-use std::ops::Range;
+ghost use Rattle.std.specs.Prelude.{◌≡◌};
+ghost use Rattle.model.specs.Marks.{mark_of};
 
 // An end not yet known; no second.
 pub const OPEN: u32 = 4294967295;
 
-// Words that tell their places, from place 0 on: what a call must leave is filled with them.
-pub fn marks() -> Range<u32> {
-    3000000000..OPEN
+// A word that tells its place: what a call must leave is filled with such.
+pub(crate) fn mark(place: usize) -> u32
+    ensures { result ≡ mark_of place }
+{
+    3000000000u32.saturating_add(u32::try_from(place).unwrap_or(OPEN))
 }
