@@ -63,17 +63,29 @@ pub fn set(store: &mut [u32], second: u32, tag: u32, reading: u32) -> Result<Hea
     Ok(finish(store, placed, second))
 }
 
+// A clear or, with a reading, a new reading, in one function, as in `changes`.
+fn clearing(
+    store: &mut [u32],
+    second: u32,
+    tag: u32,
+    reading: Option<u32>,
+) -> Result<Head, Refusal> {
+    let renews = reading.is_some();
+    let found = decisions::decide_clearing(store, second, tag, renews)?;
+    let cleared = clear_tag(store, found, second, tag);
+    let left = match reading {
+        Some(reading) => place_new(store, cleared, second, tag, reading),
+        None => cleared,
+    };
+    Ok(finish(store, left, second))
+}
+
 // A tag's standing record ends.
 pub fn clear(store: &mut [u32], second: u32, tag: u32) -> Result<Head, Refusal> {
-    let found = decisions::decide_clearing(store, second, tag, false)?;
-    let cleared = clear_tag(store, found, second, tag);
-    Ok(finish(store, cleared, second))
+    clearing(store, second, tag, None)
 }
 
 // A new reading: a clear and a set at the same second.
 pub fn update(store: &mut [u32], second: u32, tag: u32, reading: u32) -> Result<Head, Refusal> {
-    let found = decisions::decide_clearing(store, second, tag, true)?;
-    let cleared = clear_tag(store, found, second, tag);
-    let renewed = place_new(store, cleared, second, tag, reading);
-    Ok(finish(store, renewed, second))
+    clearing(store, second, tag, Some(reading))
 }

@@ -3,24 +3,14 @@ use model::asked::{Action, Change, Kind};
 use model::draw;
 use model::history::History;
 
-#[derive(Clone, Copy)]
+// (By default none has begun.)
+#[derive(Clone, Copy, Default)]
 pub struct Burst {
     kind: Kind,
     // How many calls are left of it.
     left: u32,
     // The tag of all its new readings, if they have one.
     tag: Option<u32>,
-}
-
-// No burst has begun.
-impl Default for Burst {
-    fn default() -> Burst {
-        Burst {
-            kind: Kind::Set,
-            left: 0,
-            tag: None,
-        }
-    }
 }
 
 impl Burst {

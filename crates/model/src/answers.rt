@@ -29,11 +29,7 @@ impl Answers {
     pub fn all(&self) -> Count
         ensures { result.0 ≡ min (sum_by (λ count. count.0) (counts_of self.now)) (2 ^ 32 - 1) }
     {
-        let mut all = Saturating(0);
-        for count in &self.0 {
-            all += *count;
-        }
-        all
+        self.0.iter().sum()
     }
 
     pub fn accepted(&self) -> Count

@@ -3,8 +3,9 @@ ghost use Rattle.std.specs.Prelude.{◌≡◌};
 ghost use Rattle.model.specs.Asked.{tag_of};
 
 // The kinds of changes: an update is a new reading, an advance a clock move. (An `Action` has them too: a kind is drawn before what it takes.)
-#[derive(Clone, Copy, PartialEq, Eq)]
+#[derive(Clone, Copy, Default, PartialEq, Eq)]
 pub enum Kind {
+    #[default]
     Set,
     Clear,
     Update,

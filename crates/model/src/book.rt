@@ -166,18 +166,13 @@ impl Book {
         }
     }
 
-    // Judge, for the former last block: the block that has just opened has room for all that stand. (That a judged record may open a block, and
-    // an opened block judges, would call itself: so this stands beside `judge`.)
-    fn judge_former(&mut self, n: u32, second: u32) {
+    // "Judge: if fewer than q of the block's records stand, it closes at s, all of these end, and their tags are written in order." The
+    // caller says how a record is rewritten: that may open a block, whose opening judges with another rewriting, so `judge` does not call itself.
+    fn judge<F: Fn(&mut Book, u32)>(&mut self, n: u32, second: u32, rewrite: F)
+        requires { F.IsAlwaysCallable rewrite }
+    {
         for place in self.close(n, second) {
-            self.carry(place);
-        }
-    }
-
-    // "Judge: if fewer than q of the block's records stand, it closes at s, all of these end, and their tags are written in order."
-    fn judge(&mut self, n: u32, second: u32) {
-        for place in self.close(n, second) {
-            self.move_on(place, second);
+            rewrite(self, place);
         }
     }
 
@@ -194,8 +189,9 @@ impl Book {
             closed: None,
             standing: 0,
         });
+        // It has room for all that stand in the former last.
         if former != 0 {
-            self.judge_former(former, second);
+            self.judge(former, second, |book, place| book.carry(place));
         }
     }
 
@@ -212,7 +208,7 @@ impl Book {
         self.end(place);
         let n = self.settings.block_of(place);
         if n != self.opened() {
-            self.judge(n, second);
+            self.judge(n, second, |book, place| book.move_on(place, second));
         }
     }
 

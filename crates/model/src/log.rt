@@ -123,15 +123,11 @@ impl Log {
     }
 }
 
-// The rows of the tags that have one.
+// The rows of the tags that have one, as many as there is room for.
 fn rows<F: Fn(u32) -> Option<Row>>(tags: u32, row_of: F) -> Rows
-    requires { F.IsAlwaysCallable row_of }
+    requires pre { (f : _) (a : _) → F.FnMut.pre f a }
 {
     let mut rows = Rows::new();
-    for row in (0..tags).filter_map(row_of) {
-        if !rows.is_full() {
-            rows.push(row);
-        }
-    }
+    let _ = rows.extend((0..tags).filter_map(row_of));
     rows
 }

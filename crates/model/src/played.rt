@@ -18,7 +18,8 @@ pub trait Plays {
     fn play(&mut self, history: History, calls: u32, notes: &mut Notes);
 }
 
-// So many histories, and behind them so many long ones: how many were played.
+// So many histories, and behind them so many long ones: how many were played. (They are counted one by one: where the sum was told instead, a
+// loop that left the long ones out was proved too, and an edit that must be refused says so.)
 pub fn play_all<P: Plays>(player: &mut P, notes: &mut Notes, short: u16, long: u16) -> u32
     ensures { result ≡ short + long }
 {

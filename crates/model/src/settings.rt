@@ -52,7 +52,8 @@ impl Settings {
     }
 
     // Most of the listed settings are small, so that blocks fill, close and run out within a history; some have enough blocks for two and for
-    // three levels of the index. (A table would be a constant, which may not call `new`.)
+    // three levels of the index. (Tables of tuples were tried for these and the bad ones: six lines more, with the number widened and cut to the
+    // table's length at each, where a match has an answer for each number.)
     pub fn listed(i: u32) -> Settings {
         match i {
             0 => Settings::new(2, 1, 6, 4),

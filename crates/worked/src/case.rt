@@ -2,7 +2,6 @@
 use crate::System;
 use arrayvec::ArrayString;
 use console_io::sink::Sink;
-use console_run::feed::next_number;
 use console_text::gather::LINE_MOST;
 use std::fmt::Write;
 use std::fs;
@@ -22,16 +21,14 @@ pub(crate) fn open(rt: &impl System, name: &str, ending: &str) -> Option<File> {
 // One line of a file, counted from 1: its bytes as they are, which may be no text.
 pub(crate) fn show_line(rt: &impl System, file: Option<File>, number: u64) -> std::io::Result<()> {
     if let Some(file) = file {
-        let mut at: u64 = 1;
-        for byte in file.bytes().map_while(|byte| byte.ok()) {
-            if at == number {
+        let mut bytes = file.bytes().map_while(|byte| byte.ok());
+        // The lines before it are read, if so many end.
+        if (1..number).all(|_| bytes.any(|byte| byte == b'\n')) {
+            for byte in bytes {
                 io::write_all(STDOUT, &[byte]);
-            }
-            if byte == b'\n' {
-                if at == number {
+                if byte == b'\n' {
                     return Ok(());
                 }
-                at = next_number(at);
             }
         }
     }
