@@ -1,9 +1,9 @@
 -- `decide_clearing` meets its contract: the store and the second first, then its own tests.
 use mathlib.Core.List.{List}
 use Prim.Native.Nat.{ℕ}
-use Rattle.std.proofs.lemmas.Result.{err_from_is_err_and}
 use Rattle.layout.specs.declared.head.Head.{Head}
 use Rattle.layout.specs.Head.{head_of}
+use Rattle.layout.specs.RefusalLaws.{err_kept}
 use Rattle.calls.specs.Refusals.{clear_own}
 use Rattle.queries.specs.Readable.{words_of}
 use Rattle.decisions.specs.Verdict.{more}
@@ -12,14 +12,12 @@ use Rattle.decisions.proofs.decide_clearing.Goals as goal
 
 pub returns-in_err-found : goal.returns-in_err-found
 returns-in_err-found c =
-    let p = err_from_is_err_and c.from_residual.result c.from_residual.ensures.1 in
     let ws = c.args.store.now in let h = head_of ws in
-    rw (p.1, p.2) (time_refused (clear_own (more c.args.renews) h (words_of h ws) c.args.tag) c.in_err-found.ensures)
+    rw (err_kept c.from_residual.ensures.1) (time_refused (clear_own (more c.args.renews) h (words_of h ws) c.args.tag) c.in_err-found.ensures)
 
 pub returns-in_err-test_clear : goal.returns-in_err-test_clear
 returns-in_err-test_clear c =
-    let p = err_from_is_err_and c.from_residual-in_err-test_clear.result c.from_residual-in_err-test_clear.ensures.1 in
-    rw (p.1, p.2) (own_refused (λ (h : Head) (ws : List ℕ). clear_own (more c.args.renews) h (words_of h ws) c.args.tag) c.in_ok-found.ensures c.in_err-test_clear.ensures)
+    rw (err_kept c.from_residual-in_err-test_clear.ensures.1) (own_refused (λ (h : Head) (ws : List ℕ). clear_own (more c.args.renews) h (words_of h ws) c.args.tag) c.in_ok-found.ensures c.in_err-test_clear.ensures)
 
 pub returns : goal.returns
 returns c = own_passed (λ (h : Head) (ws : List ℕ). clear_own (more c.args.renews) h (words_of h ws) c.args.tag) c.in_ok-found.ensures c.in_ok-test_clear.ensures
