@@ -22,6 +22,7 @@ number_some refusal.Unsound = omega arith
 number_some refusal.OutOfBlocks = omega arith
 number_some refusal.Reversed = omega arith
 
+-- What `?` hands on is the refusal that it found.
 pub err_kept : {A : Type 0} {r : Result A Refusal} {e : Refusal} → IsErrAnd r (λ x. x ≡ e) → r ≡ Err e
 err_kept {r = Err x} h = ap Err h
 err_kept {r = Ok a} h = absurd h
