@@ -10,14 +10,11 @@ use Rattle.decisions.proofs.entry.Entry.place_is_bad.Goals as goal
 
 -- A place that is not above the records placed lies in the store.
 lies : (c : Else-placed-self) → Lies c.args.self.now.found.now.head c.args.self.now.place
-lies c =
-    let e = c.args.self.now in
-    place_lies _ _ e.found.now.readable.sound e.place_of.some (omega (arith, c.placed.ensures, c.if-placed-self.false))
+lies c = let e = c.args.self.now in place_lies _ _ e.found.now.readable.sound e.place_of.some (omega arith)
 
 pub returns-then-placed-self : goal.returns-then-placed-self
 returns-then-placed-self c =
-    sym (bad-place _ _ _ c.args.self.now.place_of.is refl refl c.placed.ensures refl refl (lt-ltb _ _ c.if-placed-self.true) refl
-    refl)
+    sym (bad-place _ _ _ c.args.self.now.place_of.is refl refl c.placed.ensures refl refl (lt-ltb _ _ c.if-placed-self.true) refl refl)
 
 pub read-requires : goal.read-requires
 read-requires c =
@@ -26,8 +23,7 @@ read-requires c =
 
 pub returns-then-read-self : goal.returns-then-read-self
 returns-then-read-self c =
-    sym (bad-place _ _ _ c.args.self.now.place_of.is c.block-n.ensures
-    c.slot-k.ensures c.placed.ensures (sym c.read.ensures) refl
+    sym (bad-place _ _ _ c.args.self.now.place_of.is c.block-n.ensures c.slot-k.ensures c.placed.ensures (sym c.read.ensures) refl
     (le-ltb _ _ c.if-placed-self.false) (ne_eqb _ _ c.if-read-self.true) refl)
 
 pub standing-requires : goal.standing-requires
@@ -35,8 +31,5 @@ standing-requires c = numbered_at (lies (goal.at.standing-requires c).Else-place
 
 pub returns : goal.returns
 returns c =
-    sym (bad-place _ _ _ c.args.self.now.place_of.is
-    c.block-n.ensures c.slot-k.ensures
-    c.placed.ensures (sym c.read.ensures)
-    c.standing.ensures
-    (le-ltb _ _ c.if-placed-self.false) (eq-eqb _ _ c.if-read-self.false) (sym c.has.ensures))
+    sym (bad-place _ _ _ c.args.self.now.place_of.is c.block-n.ensures c.slot-k.ensures c.placed.ensures (sym c.read.ensures)
+    c.standing.ensures (le-ltb _ _ c.if-placed-self.false) (eq-eqb _ _ c.if-read-self.false) (sym c.has.ensures))
