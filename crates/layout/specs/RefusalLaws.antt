@@ -1,5 +1,6 @@
--- Every refusal has a number, and 0 is none.
-use Rattle.std.specs.Prelude.{◌≤◌}
+-- Every refusal has a number, and 0 is none; and `?` hands on the refusal that it found.
+use Rattle.std.specs.Prelude.{◌≤◌, ◌≡◌, Result, Ok, Err, IsErrAnd}
+use Rattle.std.proofs.Math.Path.{ap}
 use native.Mathlib.Omega.{arith}
 use Rattle.layout.specs.declared.refusal.Refusal.{Refusal}
 use Rattle.layout.specs.declared.refusal.Refusal.TheVariants as refusal
@@ -20,3 +21,8 @@ number_some refusal.ShortBuffer = omega arith
 number_some refusal.Unsound = omega arith
 number_some refusal.OutOfBlocks = omega arith
 number_some refusal.Reversed = omega arith
+
+-- What `?` hands on is the refusal that it found.
+pub err_kept : {A : Type 0} {r : Result A Refusal} {e : Refusal} → IsErrAnd r (λ x. x ≡ e) → r ≡ Err e
+err_kept {r = Err x} h = ap Err h
+err_kept {r = Ok a} h = absurd h

@@ -7,13 +7,15 @@ use Prim.Native.Nat.{ℕ, ◌+◌, ◌-◌, ◌≤◌, ◌<◌}
 use borrow.Author.Tests.{eq-eqb, ne_eqb, lt-ltb, le-ltb, le-leb, lt-leb}
 use Rattle.base.specs.Lists.{joined}
 use Rattle.base.specs.ListLaws.{joined_more, those_more, those_less}
+use Rattle.layout.specs.declared.head.Head.{Head}
 use Rattle.layout.specs.declared.settings.Settings.{Settings}
 use Rattle.layout.specs.Settings.{Within}
 use Rattle.layout.specs.Fields.{opened_word, closed_word, tag_word, from_word, to_word}
-use Rattle.layout.specs.Parts.{block_word, slot_word}
+use Rattle.layout.specs.Parts.{block_part, block_word, slot_word}
 use Rattle.layout.specs.Places.{block_of, slot_of, place_of}
 use Rattle.layout.specs.Spot.{Spot}
 use Rattle.calls.specs.Walk.{Reader}
+use Rattle.calls.specs.LookBack.{reader}
 use Rattle.calls.specs.Range.{PlacedRecord, record_in, is_read, read_records, stood_in}
 use Rattle.queries.specs.declared.unsound.Unsound.{Unsound}
 use Rattle.window.specs.declared.span.Span.{Span}
@@ -98,10 +100,15 @@ module _ (w : Span) (n k : ℕ) where
       → slots_stood w n (k + 1) ≡ slots_stood w n k
   stood_same e = ap (stood w.first w.last) records_more ∙ those_less stood_here (records_to w.first w.last s R n k) e
 
-  module _ {best : List ℕ} (so_far : NotedTo w n k best) {block : List ℕ} (is-block : block ≡ R.block n)
+  module _ {best : List ℕ} (so_far : NotedTo w n k best) {block : List ℕ} (is-part : block ≡ block_part s w.opened.store.now n)
       {b : Bool} (test : (s : Settings) (n : ℕ) → b ≡ stood_in w.first w.last (record_in s n block k)) where
     abbrev After : Result (Unit {0}) Unsound → List ℕ → Type 0
     After = NotesTo w n (k + 1)
+
+    -- It is the walk's block.
+    is-block : block ≡ R.block n
+    unfolding reader
+    is-block = is-part ∙ ap (λ (h : Head). block_part h.settings w.opened.store.now n) w.opened.readable.is
 
     -- it did not stand,
     pub slot_passed : b ≡ false → After (Ok tt) best
@@ -118,11 +125,11 @@ module _ (w : Span) (n k : ℕ) where
           unknown (rw (stood_more d) (unknown_last s.tags (slots_stood w n k) here (rw i at h)))
 
       -- and it is noted.
-      pub slot_noted : Spot s n k → tag < s.tags → s.tags ≤ 4096 → {from place x : ℕ}
+      pub slot_noted : Spot s n k → tag < s.tags → {from place x : ℕ}
           → from ≡ slot_word block k from_word → place ≡ place_of s n k → x ≡ later_place s R (get_or best tag 0) place from → After (Ok tt) (set best tag x)
-      slot_noted spot h few {from} {place} {x} is-from is-place later =
+      slot_noted spot h {from} {place} {x} is-from is-place later =
           let d : stood_here here ≡ true = rw is-block at (sym (test s n) ∙ e) in
           let i : tag ≡ slot_word (R.block n) k tag_word = rw is-block at is-tag in
           let f : from ≡ slot_word (R.block n) k from_word = rw is-block at is-from in
           noted {best = set best tag x} (rw (stood_more d)
-          (noted_more so_far here (slot_met R spot) (omega arith) (rw i at h) few i (rw (is-place, f) at later)))
+          (noted_more so_far here (slot_met R spot) (omega arith) (rw i at h) w.opened.readable.sound.within.tags i (rw (is-place, f) at later)))

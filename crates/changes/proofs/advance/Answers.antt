@@ -1,7 +1,7 @@
 -- `advance` meets its contract: turned away it leaves all words, else those of its program.
-use Rattle.std.proofs.lemmas.Result.{err_from_is_err_and}
 use Rattle.layout.specs.declared.head.Head.{Head}
 use Rattle.layout.specs.Head.{head_of}
+use Rattle.layout.specs.RefusalLaws.{err_kept}
 use Rattle.calls.specs.Placing.{advance_program}
 use Rattle.calls.specs.Step.{advance}
 use Rattle.changes.specs.ReplyLaws.{turned_away, carried_out, advance_able}
@@ -11,8 +11,7 @@ pub returns-in_err-found : goal.returns-in_err-found
 unfolding advance
 returns-in_err-found c =
     let a = c.args in let h = head_of a.store.now in
-    let p = err_from_is_err_and c.from_residual.result c.from_residual.ensures.1 in
-    rw (p.1, p.2) (turned_away (advance_program h.settings h.cursor a.second) c.in_err-found.ensures)
+    rw (err_kept c.from_residual.ensures.1) (turned_away (advance_program h.settings h.cursor a.second) c.in_err-found.ensures)
 
 pub advance_program-next-requires : goal.advance_program-next-requires
 advance_program-next-requires c = advance_able c.args.second _ c.in_ok-found.ensures

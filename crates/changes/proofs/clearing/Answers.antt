@@ -1,7 +1,7 @@
 -- `clearing` meets its contract: turned away it leaves all words, else those of its program.
-use Rattle.std.proofs.lemmas.Result.{err_from_is_err_and}
 use Rattle.layout.specs.declared.head.Head.{Head}
 use Rattle.layout.specs.Head.{head_of}
+use Rattle.layout.specs.RefusalLaws.{err_kept}
 use Rattle.placing.specs.Steps.{clearing_program}
 use Rattle.decisions.specs.Verdict.{more}
 use Rattle.changes.specs.Replied.{clearing}
@@ -12,8 +12,7 @@ pub returns-in_err-found : goal.returns-in_err-found
 unfolding clearing
 returns-in_err-found c =
     let a = c.args in let h = head_of a.store.now in
-    let p = err_from_is_err_and c.from_residual.result c.from_residual.ensures.1 in
-    rw (p.1, p.2) (turned_away (clearing_program h.settings h.cursor a.second a.tag a.reading) (rw c.is_some-renews.ensures at c.in_err-found.ensures))
+    rw (err_kept c.from_residual.ensures.1) (turned_away (clearing_program h.settings h.cursor a.second a.tag a.reading) (rw c.is_some-renews.ensures at c.in_err-found.ensures))
 
 pub clearing_program-next-requires : goal.clearing_program-next-requires
 clearing_program-next-requires c =

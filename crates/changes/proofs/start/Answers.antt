@@ -1,15 +1,13 @@
 -- `start` meets its contract: turned away it leaves all words, else the layout filled with zeros and the head.
 use mathlib.Core.Path.{ap, ◌∙◌}
-use Rattle.std.proofs.lemmas.Result.{err_from_is_err_and}
 use Rattle.layout.specs.Head.{with_head}
+use Rattle.layout.specs.RefusalLaws.{err_kept}
 use Rattle.decisions.specs.StartLaws.{go_start}
 use Rattle.changes.specs.ReplyLaws.{start_away, start_done}
 use Rattle.changes.proofs.start.Goals as goal
 
 pub returns-in_err-settings : goal.returns-in_err-settings
-returns-in_err-settings c =
-    let p = err_from_is_err_and c.from_residual.result c.from_residual.ensures.1 in
-    rw (p.1, p.2) (start_away c.args.store.now c.in_err-settings.ensures)
+returns-in_err-settings c = rw (err_kept c.from_residual.ensures.1) (start_away c.args.store.now c.in_err-settings.ensures)
 
 pub clear_layout-requires : goal.clear_layout-requires
 clear_layout-requires c =

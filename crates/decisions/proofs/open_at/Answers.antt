@@ -1,13 +1,11 @@
 -- `open_at` meets its contract: the store first, then the second.
 use borrow.Author.Tests.{lt-ltb, le-ltb, le-leb, lt-leb}
-use Rattle.std.proofs.lemmas.Result.{err_from_is_err_and}
+use Rattle.layout.specs.RefusalLaws.{err_kept}
 use Rattle.decisions.specs.VerdictLaws.{store_shut, time_open, time_early, time_fits}
 use Rattle.decisions.proofs.open_at.Goals as goal
 
 pub returns-in_err-found : goal.returns-in_err-found
-returns-in_err-found c =
-    let p = err_from_is_err_and c.from_residual.result c.from_residual.ensures.1 in
-    rw (p.1, p.2) (store_shut c.in_err-found.ensures)
+returns-in_err-found c = rw (err_kept c.from_residual.ensures.1) (store_shut c.in_err-found.ensures)
 
 pub returns-then-second-ge-OPEN : goal.returns-then-second-ge-OPEN
 returns-then-second-ge-OPEN c = time_open c.in_ok-found.ensures (le-leb _ _ c.if-second-ge-OPEN.true)

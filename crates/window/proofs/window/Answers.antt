@@ -1,17 +1,13 @@
 -- `window` meets its contract: refusals 2, 3 and 4 are the store's, 5 to 11 its own tests', 12 the records'.
-use Rattle.std.proofs.lemmas.Result.{err_from_is_err_and}
+use Rattle.layout.specs.RefusalLaws.{err_kept}
 use Rattle.window.specs.WindowedLaws.{store_refused, window_refused, window_answers}
 use Rattle.window.proofs.window.Goals as goal
 
 pub returns-in_err-opened : goal.returns-in_err-opened
-returns-in_err-opened c =
-    let p = err_from_is_err_and c.from_residual.result c.from_residual.ensures.1 in
-    rw (p.1, p.2) (store_refused _ _ _ _ c.in_err-opened.ensures)
+returns-in_err-opened c = rw (err_kept c.from_residual.ensures.1) (store_refused _ _ _ _ c.in_err-opened.ensures)
 
 pub returns-in_err-test : goal.returns-in_err-test
-returns-in_err-test c =
-    let p = err_from_is_err_and c.from_residual-in_err-test.result c.from_residual-in_err-test.ensures.1 in
-    rw (p.1, p.2) (window_refused c.in_ok-opened.ensures _ _ c.in_err-test.ensures)
+returns-in_err-test c = rw (err_kept c.from_residual-in_err-test.ensures.1) (window_refused c.in_ok-opened.ensures _ _ c.in_err-test.ensures)
 
 pub returns : goal.returns
 returns c = window_answers c.in_ok-opened.ensures _ _ c.in_ok-test.ensures c.answer.ensures

@@ -1,15 +1,13 @@
 -- `start::decide_start` meets its contract: the settings first, then the store.
 use lib.ListN.{length}
 use borrow.Author.Tests.{lt-ltb, le-ltb}
-use Rattle.std.proofs.lemmas.Result.{err_from_is_err_and}
+use Rattle.layout.specs.RefusalLaws.{err_kept}
 use Rattle.decisions.specs.TestLaws.{hit, miss, none, short_by}
 use Rattle.decisions.specs.StartLaws.{settings_within, settings_refused, store_refused, store_passed}
 use Rattle.decisions.proofs.start.decide_start.Goals as goal
 
 pub returns-in_err-settings : goal.returns-in_err-settings
-returns-in_err-settings c =
-    let p = err_from_is_err_and c.from_residual.result c.from_residual.ensures.1 in
-    rw (p.1, p.2) (settings_refused c.args.asked c.args.store.now c.in_err-settings.ensures)
+returns-in_err-settings c = rw (err_kept c.from_residual.ensures.1) (settings_refused c.args.asked c.args.store.now c.in_err-settings.ensures)
 
 pub returns-then-store-lt-HEAD_LEN : goal.returns-then-store-lt-HEAD_LEN
 returns-then-store-lt-HEAD_LEN c =

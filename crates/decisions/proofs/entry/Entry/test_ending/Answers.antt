@@ -5,11 +5,11 @@ use Rattle.decisions.specs.Ready.{words_in}
 use Rattle.decisions.specs.Verdict.{more}
 use Rattle.decisions.specs.EffectLaws.{numbered_at}
 use Rattle.decisions.specs.SoundLaws.{Ending, place_in, end_place, end_closing, end_rests, end_acceptor, end_out}
-use Rattle.decisions.proofs.entry.Entry.test_ending.Goals.{After-incoming-incoming}
+use Rattle.decisions.proofs.entry.Entry.test_ending.Goals.{After-block, After-incoming-incoming}
 use Rattle.decisions.proofs.entry.Entry.test_ending.Goals as goal
 
 -- Once its place has passed, it lies in the store;
-lies : (c : goal.After-block) → Lies c.args.self.now.found.now.head c.args.self.now.place
+lies : (c : After-block) → Lies c.args.self.now.found.now.head c.args.self.now.place
 lies c = let e = c.args.self.now in place_in _ _ _ e.found.now.readable.sound e.place_of.is e.place_of.some (sym c.place_is_bad.ensures ∙ c.if-place_is_bad.false)
 
 -- and once its block has passed, only the acceptor and a block to open are left.
@@ -35,16 +35,17 @@ returns-then-closing_is_bad c =
     (sym c.place_is_bad.ensures ∙ c.if-place_is_bad.false) (sym c.closing_is_bad.ensures ∙ c.if-closing_is_bad.true)
 
 pub returns-then-not-opens : goal.returns-then-not-opens
-returns-then-not-opens c = end_rests _ _ (ends c.before.before) (sym c.opens.ensures ∙ c.if-not-opens.true)
+returns-then-not-opens c = end_rests _ _ (ends (goal.at.returns-then-not-opens c).After-incoming-incoming) (sym c.opens.ensures ∙ c.if-not-opens.true)
 
 pub acceptor_is_bad-requires : goal.acceptor_is_bad-requires
-acceptor_is_bad-requires c = lies c.before.before.before.before.before.before.before.before
+acceptor_is_bad-requires c = lies (goal.at.acceptor_is_bad-requires c).After-block
 
 pub returns-then-acceptor_is_bad : goal.returns-then-acceptor_is_bad
 returns-then-acceptor_is_bad c =
-    end_acceptor _ _ (ends c.before.before.before.before) (sym c.opens.ensures ∙ c.if-not-opens.false) (sym c.acceptor_is_bad.ensures ∙ c.if-acceptor_is_bad.true)
+    end_acceptor _ _ (ends (goal.at.returns-then-acceptor_is_bad c).After-incoming-incoming) (sym c.opens.ensures ∙ c.if-not-opens.false)
+    (sym c.acceptor_is_bad.ensures ∙ c.if-acceptor_is_bad.true)
 
 pub returns : goal.returns
 returns c =
-    end_out _ _ (ends c.before.before.before.before.before) (sym c.opens.ensures ∙ c.if-not-opens.false) (sym c.acceptor_is_bad.ensures ∙ c.if-acceptor_is_bad.false)
-    c.test_opening.ensures
+    end_out _ _ (ends (goal.at.returns c).After-incoming-incoming) (sym c.opens.ensures ∙ c.if-not-opens.false)
+    (sym c.acceptor_is_bad.ensures ∙ c.if-acceptor_is_bad.false) c.test_opening.ensures
