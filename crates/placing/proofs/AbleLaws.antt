@@ -49,6 +49,8 @@ pub able_few : {s : Settings} (n : ℕ) {p : List ℕ → Prog Cursor} {q : Prog
 able_few n a e few so = able_taken (sym few ∙ so) (able_next a (ran_standing n a e))
 
 -- ---- slots
+-- (Each answer that needs what follows names its lemma. Tried: as rules of Following the check finds none of them, since their numbers stand under a
+-- program's name; and a helper over a place of `unlink` was no shorter, since each answer would have to name that place.)
 pub end_spot : {s : Settings} {ws : List ℕ} (n k now : ℕ) → Able s (end_record n k now) ws → Spot s n k
 unfolding end_record
 end_spot n k now a = let v = able_set (Slot n k to_word) (able_first a) in record { within = a.within; block = v.0; slot = v.1 }
