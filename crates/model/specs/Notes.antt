@@ -1,4 +1,4 @@
--- WHAT IS NOTED: a call is begun, and something did not agree.
+-- WHAT IS NOTED: a call is begun, and something did not agree. (What is printed of it, no clause says.)
 use Rattle.model.specs.declared.notes.Notes.{Notes}
 use Rattle.model.specs.Answers.{one_more}
 
