@@ -63,7 +63,9 @@ pub fn set(store: &mut [u32], second: u32, tag: u32, reading: u32) -> Result<Hea
     Ok(finish(store, placed, second))
 }
 
-// A clear or, with a reading, a new reading, in one function, as in `changes`.
+// A clear or, with a reading, a new reading, in one function, as in `changes`. (Always in line: without, a call that closes a block with 31 records
+// executed 3 % more.)
+#[inline(always)]
 fn clearing(
     store: &mut [u32],
     second: u32,
