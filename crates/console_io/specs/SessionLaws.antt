@@ -66,12 +66,15 @@ fed_as e f = rw e f
 pub read_none : (s : Running) → ReadAll s s
 read_none s = record { input = []; fed = fed_nothing s }
 
--- The read by what it answered.
+pub read_more : {s t u : Running} {got : ℕ} {chunk : List ℕ} {more : Bool} → ReadAll s t → FedRead got chunk t more u → ReadAll s u
+read_more {chunk} r f = record { input = r.input ++ _; fed = fed_on r.fed f.fed }
+
+-- A read by what it answered, and one after the others, whatever it answered.
 pub read_as : {s t : Running} {got : ℕ} {chunk : List ℕ} {more : Bool} → FedRead got chunk s more t → ReadSome chunk s more t
 read_as {got} f = record { got = got; fed = f }
 
-pub read_more : {s t u : Running} {chunk : List ℕ} {more : Bool} → ReadAll s t → ReadSome chunk t more u → ReadAll s u
-read_more r f = record { input = r.input ++ _; fed = fed_on r.fed f.fed.fed }
+pub read_next : {s t u : Running} {chunk : List ℕ} {more : Bool} → ReadAll s t → ReadSome chunk t more u → ReadAll s u
+read_next r f = read_more r f.fed
 
 -- ---- the whole run
 

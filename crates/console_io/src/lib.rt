@@ -106,7 +106,7 @@ impl Session {
     }
 
     // The whole input. Nothing says that an input ends, so the reads are counted up to a number that no input uses up.
-    #[tactic(auto, using(crate::specs::SessionLaws::read_none, crate::specs::SessionLaws::read_more))]
+    #[tactic(auto, using(crate::specs::SessionLaws::read_none, crate::specs::SessionLaws::read_next))]
     fn read_all<R: Read>(&mut self, input: &mut R)
         ensures { ReadAll (running self.old) (running self.new) }
     {
