@@ -8,9 +8,8 @@ use crate::lent::LentWords;
 use crate::turn;
 use crate::turn::{Said, Stage};
 use console_text::gather::Gather;
-use std::mem;
 
-#[derive(Drop)]
+#[derive(Clone, Copy)]
 pub struct Console {
     pub stage: Stage,
     pub gather: Gather,
@@ -95,7 +94,8 @@ impl Console {
         if !self.gather.left_over() {
             return self.goes_on();
         }
-        let line = mem::replace(&mut self.gather, Gather::new());
+        let line = self.gather;
+        self.gather = Gather::new();
         self.take(&line, lent)
     }
 }
