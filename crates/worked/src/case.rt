@@ -12,6 +12,9 @@ use std::os::fd::AsRawFd;
 
 const STDOUT: i32 = 1;
 
+// A descriptor that gives nothing.
+const NO_FILE: i32 = -1;
+
 // A name with the ending `.out` fits a line of `cases`.
 const NAME_MOST: usize = LINE_MOST - 4;
 
@@ -53,7 +56,8 @@ fn show_printed(input: Option<File>, number: u64) {
     let pick = Sink::Pick(STDOUT, number);
     let left = match input {
         Some(mut input) => console_io::run_over(&mut input, pick),
-        None => pick,
+        // What can't be opened again gives nothing, as an empty input.
+        None => console_io::run(NO_FILE, pick),
     };
     if let Sink::Pick(_, 1..) = left {
         print("(no such line)\n");
