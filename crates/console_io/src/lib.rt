@@ -132,8 +132,9 @@ impl Session {
         };
         let step = self.console.last(&mut lent);
         let printed = print_said(self.sink, step.said, step.number, &self.rows);
-        let missing = print::at_end(self.console.stage);
-        print_said(printed, missing, self.console.number, &self.rows)
+        let console = self.console;
+        let missing = print::at_end(console.stage);
+        print_said(printed, missing, console.number, &self.rows)
     }
 }
 

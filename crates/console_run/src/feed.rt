@@ -8,6 +8,7 @@ use crate::lent::LentWords;
 use crate::turn;
 use crate::turn::{Said, Stage};
 use console_text::gather::Gather;
+use std::marker::Model;
 
 #[derive(Clone, Copy)]
 pub struct Console {
@@ -15,6 +16,18 @@ pub struct Console {
     pub gather: Gather,
     // the number of the line that is awaited or gathered, from 1
     pub number: u64,
+}
+
+// Contracts see its fields. (The model is there for copies: a struct that has none is passed by value once only, as the check stands, where a
+// field has one.)
+impl Model for Console {
+    ghost use Rattle.console_run.specs.Between.{Between};
+
+    ghost Value = { Between };
+
+    ghost view = { λ c. record { stage = c.stage; gather = c.gather; number = c.number } };
+
+    ghost inverse = { λ c. record { stage = c.stage; gather = c.gather; number = c.number } };
 }
 
 // What is said of the input line `number`.
