@@ -37,6 +37,11 @@ pub record FedRead (got : ℕ) (chunk : List ℕ) (before : Running) (more : Boo
   pub fed : FedBytes (take (min got (length chunk)) chunk) before after
   pub goes_on : more ≡ not (eqb (min got (length chunk)) 0)
 
+-- One read into the chunk, whatever it answered: what is fed is what this chunk holds after it.
+pub record ReadSome (chunk : List ℕ) (before : Running) (more : Bool) (after : Running) : Type 0 where
+  pub got : ℕ
+  pub fed : FedRead got chunk before more after
+
 -- All reads: there are bytes that were fed, in order. (That they are the chunks of the reads, one after another, is read off `read_all`.)
 pub record ReadAll (before after : Running) : Type 0 where
   pub input : List ℕ

@@ -11,7 +11,7 @@ use Rattle.console_run.specs.SaidLaws.{lines_in_chunks}
 use Rattle.console_io.specs.declared.sink.Sink.{Sink}
 use Rattle.console_io.specs.Sinks.{Sent, none, next}
 use Rattle.console_io.specs.SinkLaws.{sent_on}
-use Rattle.console_io.specs.Session.{Running, Begins, FedByte, FedBytes, FedRead, ReadAll, Ran}
+use Rattle.console_io.specs.Session.{Running, Begins, FedByte, FedBytes, FedRead, ReadSome, ReadAll, Ran}
 
 -- ---- bytes
 
@@ -68,6 +68,13 @@ read_none s = record { input = []; fed = fed_nothing s }
 
 pub read_more : {s t u : Running} {got : ℕ} {chunk : List ℕ} {more : Bool} → ReadAll s t → FedRead got chunk t more u → ReadAll s u
 read_more {chunk} r f = record { input = r.input ++ _; fed = fed_on r.fed f.fed }
+
+-- A read by what it answered, and one after the others, whatever it answered.
+pub read_as : {s t : Running} {got : ℕ} {chunk : List ℕ} {more : Bool} → FedRead got chunk s more t → ReadSome chunk s more t
+read_as {got} f = record { got = got; fed = f }
+
+pub read_next : {s t u : Running} {chunk : List ℕ} {more : Bool} → ReadAll s t → ReadSome chunk t more u → ReadAll s u
+read_next r f = read_more r f.fed
 
 -- ---- the whole run
 

@@ -10,7 +10,7 @@ ghost use Rattle.std.specs.Prelude.{◌≡◌};
 ghost use Rattle.console_run.specs.Console.{told, said_lines};
 ghost use Rattle.console_run.specs.Feed.{is_over, finish_lines};
 ghost use Rattle.console_io.specs.Sinks.{Sent};
-ghost use Rattle.console_io.specs.Session.{running, Begins, FedByte, FedBytes, FedRead, ReadAll, Ran};
+ghost use Rattle.console_io.specs.Session.{running, Begins, FedByte, FedBytes, FedRead, ReadSome, ReadAll, Ran};
 
 use console_run::feed::{COUNT_MOST, Console};
 use console_run::lent::{LIST, LentWords, ROWS, STORE};
@@ -96,9 +96,17 @@ impl Session {
         n != 0
     }
 
-    // The whole input. A read that fails ends it, as the input's end does. Nothing says that an input ends, so the reads are counted up to a
-    // number that no input uses up.
-    #[tactic(auto, using(crate::specs::SessionLaws::read_none, crate::specs::SessionLaws::read_more))]
+    // One read into the chunk, and what it left there is fed: whether it left any. A read that fails ends the input, as its end does. (What a read
+    // answers no contract can say; that what is fed is what the very chunk holds after it, this one says.)
+    fn read_some<R: Read>(&mut self, input: &mut R, chunk: &mut [u8]) -> bool
+        ensures { ReadSome chunk.new (running self.old) result (running self.new) }
+    {
+        let got = input.read(chunk).unwrap_or(0);
+        self.feed_read(got, chunk)
+    }
+
+    // The whole input. Nothing says that an input ends, so the reads are counted up to a number that no input uses up.
+    #[tactic(auto, using(crate::specs::SessionLaws::read_none, crate::specs::SessionLaws::read_next))]
     fn read_all<R: Read>(&mut self, input: &mut R)
         ensures { ReadAll (running self.old) (running self.new) }
     {
@@ -107,8 +115,7 @@ impl Session {
             if self.is_over() {
                 return;
             }
-            let got = input.read(&mut chunk).unwrap_or(0);
-            if !self.feed_read(got, &chunk) {
+            if !self.read_some(input, &mut chunk) {
                 return;
             }
         }
@@ -125,8 +132,9 @@ impl Session {
         };
         let step = self.console.last(&mut lent);
         let printed = print_said(self.sink, step.said, step.number, &self.rows);
-        let missing = print::at_end(self.console.stage);
-        print_said(printed, missing, self.console.number, &self.rows)
+        let console = self.console;
+        let missing = print::at_end(console.stage);
+        print_said(printed, missing, console.number, &self.rows)
     }
 }
 

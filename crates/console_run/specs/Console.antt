@@ -3,7 +3,6 @@
 use Rattle.std.specs.Prelude.{cond, List, [], ◌∷◌, ◌++◌, ℕ, zero, suc, ◌+◌, ◌*◌, get_or, replicate, bytes_eq, Option, Some, None}
 use Rattle.layout.specs.Sizes.{row_len}
 use Rattle.layout.specs.Settings.{settings_of}
-use Rattle.layout.specs.RefusalNumbers.{number}
 use Rattle.calls.specs.Calls.{Answer, Done, Shown, Numbers, Refused}
 use Rattle.calls.specs.Step.{step}
 use Rattle.applying.specs.declared.call.Call.{Call}
@@ -39,11 +38,11 @@ pub data Told : Type 0 where
   No : ℕ → ℕ → Told
   Slice : ℕ → ℕ → ℕ → Told
 
--- The same in code, which keeps the refusal itself.
+-- The same in code.
 abbrev pub told : Said → Told
 told said.Nothing = Nothing
 told said.Bad = Bad
-told (said.No time refusal) = No time (number refusal)
+told (said.No time refusal) = No time refusal
 told (said.Slice time rows blocks) = Slice time rows blocks
 
 -- The line that is awaited next, what is said of this one, and the lent words after it.

@@ -1,4 +1,5 @@
 pub mod Console
+pub mod Between
 pub mod Words
 pub mod Feed
 pub mod TurnLaws

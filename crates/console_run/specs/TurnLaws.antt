@@ -2,6 +2,7 @@
 use Rattle.std.specs.Prelude.{◌≡◌, refl, List, ℕ, Result, Ok, Err}
 use Rattle.std.proofs.Common.{ap}
 use Rattle.layout.specs.declared.refusal.Refusal.{Refusal}
+use Rattle.layout.specs.RefusalNumbers.{number}
 use Rattle.calls.specs.Calls as calls
 use Rattle.timeslice.specs.declared.Slice as timeslice
 use Rattle.applying.specs.declared.call.Call.{Call}
@@ -17,7 +18,7 @@ use Rattle.console_run.specs.Console.{Lent, Slice, No, lent, tells, does, says, 
 abbrev pub turn_of : Stage → Stage → ℕ → Result Answer Refusal → Turn
 turn_of done refused time (Ok (Done h)) = says done said.Nothing
 turn_of done refused time (Ok (Shown s)) = says done (said.Slice time s.counts.rows s.counts.blocks)
-turn_of done refused time (Err e) = says refused (said.No time e)
+turn_of done refused time (Err e) = says refused (said.No time (number e))
 
 turn_says : (done refused : Stage) (time : ℕ) (words : Lent) {a : calls.Answer} {r : Result Answer Refusal} → Says a r
     → does (turn_of done refused time r) words ≡ answered done refused time a words

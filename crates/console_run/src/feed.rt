@@ -8,14 +8,26 @@ use crate::lent::LentWords;
 use crate::turn;
 use crate::turn::{Said, Stage};
 use console_text::gather::Gather;
-use std::mem;
+use std::marker::Model;
 
-#[derive(Drop)]
+#[derive(Clone, Copy)]
 pub struct Console {
     pub stage: Stage,
     pub gather: Gather,
     // the number of the line that is awaited or gathered, from 1
     pub number: u64,
+}
+
+// Contracts see its fields. (The model is there for copies: a struct that has none is passed by value once only, as the check stands, where a
+// field has one.)
+impl Model for Console {
+    ghost use Rattle.console_run.specs.Between.{Between};
+
+    ghost Value = { Between };
+
+    ghost view = { λ c. record { stage = c.stage; gather = c.gather; number = c.number } };
+
+    ghost inverse = { λ c. record { stage = c.stage; gather = c.gather; number = c.number } };
 }
 
 // What is said of the input line `number`.
@@ -95,7 +107,8 @@ impl Console {
         if !self.gather.left_over() {
             return self.goes_on();
         }
-        let line = mem::replace(&mut self.gather, Gather::new());
+        let line = self.gather;
+        self.gather = Gather::new();
         self.take(&line, lent)
     }
 }

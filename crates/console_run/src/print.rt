@@ -6,7 +6,7 @@ ghost use Rattle.console_run.specs.PrintLaws.{line_count, slice_line};
 use crate::turn::{Said, Stage};
 use console_text::print;
 use console_text::print::OutputLine;
-use layout::ROW_LEN;
+pub use layout::ROW_LEN;
 
 // At the end of the input: one of the first three lines is missing, or nothing is.
 pub fn at_end(stage: Stage) -> Said
@@ -60,7 +60,7 @@ pub fn line_at(said: Said, number: u64, rows: &[u32], i: u64) -> OutputLine
     match said {
         Said::Nothing => OutputLine::new(),
         Said::Bad => print::bad_line(number),
-        Said::No(time, refusal) => print::no_line(time, refusal.number()),
+        Said::No(time, refusal) => print::no_line(time, refusal),
         Said::Slice(time, count, blocks) => slice_line(time, count, blocks, rows, i),
     }
 }

@@ -28,8 +28,8 @@ pub enum Stage {
 pub enum Said {
     Nothing,
     Bad,
-    // time, why
-    No(u32, Refusal),
+    // time, the refusal's number (the line prints any number: a `Refusal` here would ask more of those who call `print` with one)
+    No(u32, u32),
     // time, rows, blocks listed
     Slice(u32, u32, u32),
 }
@@ -97,7 +97,7 @@ fn answered(answer: Result<Answer, Refusal>, time: u32, done: Stage, refused: St
             done,
             Said::Slice(time, slice.counts.rows, slice.counts.blocks),
         ),
-        Err(refusal) => (refused, Said::No(time, refusal)),
+        Err(refusal) => (refused, Said::No(time, refusal.number())),
     };
     Turn { next, said }
 }

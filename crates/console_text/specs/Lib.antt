@@ -4,6 +4,7 @@ pub mod Output
 pub mod Fields
 pub mod Input
 pub mod Lines
+pub mod HeldLaws
 pub mod DecimalLaws
 pub mod DigitsLaws
 pub mod OutputLaws

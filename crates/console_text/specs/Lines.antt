@@ -1,6 +1,5 @@
 -- THE LINES OF AN INPUT (document 01, "The console program"), and the same lines gathered byte by byte, each in the room of a line's length.
-use Rattle.std.specs.Prelude.{Bool, true, cond, not, List, [], ◌∷◌, ◌++◌, ℕ, eqb, leb, length, Option, Some, None}
-use Rattle.arrayvec.specs.ArrayVec.{ArrayVec}
+use Rattle.std.specs.Prelude.{Bool, true, cond, not, List, [], ◌∷◌, ◌++◌, ℕ, ◌-◌, eqb, leb, length, replicate, Option, Some, None}
 use Prim.Native.Char.{code}
 use Rattle.console_text.specs.Fields.{split}
 
@@ -30,9 +29,18 @@ lines_of input = ended (split (code "\n") input)
 -- ---- byte by byte
 
 -- What the code holds of a line: its bytes, as long as there is room for them.
-abbrev pub held : Option (ArrayVec ℕ) → Text
-held (Some bytes) = whole bytes.items
+abbrev pub held : Option (List ℕ) → Text
+held (Some bytes) = whole bytes
 held None = too_long
+
+-- What it holds of a line with this text.
+abbrev pub holding : Text → Option (List ℕ)
+holding (whole bytes) = Some bytes
+holding too_long = None
+
+-- The bytes in that room, with zeros behind them.
+abbrev pub padded : List ℕ → List ℕ
+padded bytes = bytes ++ replicate (line_most - length bytes) 0
 
 abbrev pub new_line : Text
 new_line = whole []

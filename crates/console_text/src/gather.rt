@@ -3,25 +3,29 @@
 ghost use Rattle.std.specs.Prelude.{◌≡◌, MatchOption};
 ghost use Rattle.console_text.specs.Lines.{Text, whole, too_long, new_line, left_over, grown, fed_answer, fed_next};
 
-use arrayvec::ArrayVec;
+use crate::line_bytes::LineBytes;
 use std::marker::Model;
-use std::mem;
 
 pub const LINE_MOST: usize = 80;
 
 // A line so far.
-#[derive(Drop)]
+#[derive(Clone, Copy)]
 pub struct Gather {
     // its bytes; none where it has more than LINE_MOST
-    bytes: Option<ArrayVec<u8, LINE_MOST>>,
+    bytes: Option<LineBytes>,
 }
 
 impl Model for Gather {
-    ghost use Rattle.console_text.specs.Lines.{Text, held};
+    ghost use Rattle.console_text.specs.Lines.{Text, held, holding};
+    ghost use Rattle.console_text.specs.HeldLaws.{holding_held};
 
     ghost Value = { Text };
 
     ghost view = { λ g. held g.bytes };
+
+    ghost inverse = { λ text. record { bytes = holding text } };
+
+    ghost inverse_ok = { λ g h i. record { bytes = holding_held g.bytes i } };
 }
 
 impl Gather {
@@ -30,7 +34,7 @@ impl Gather {
         ensures { result ≡ new_line }
     {
         Gather {
-            bytes: Some(ArrayVec::new()),
+            bytes: Some(LineBytes::new()),
         }
     }
 
@@ -40,7 +44,9 @@ impl Gather {
         ensures next { self.new ≡ fed_next self.old byte }
     {
         if byte == b'\n' {
-            return Some(mem::replace(self, Gather::new()));
+            let line = *self;
+            *self = Gather::new();
+            return Some(line);
         }
         self.push(byte);
         None
@@ -61,7 +67,9 @@ impl Gather {
     pub fn left_over(&self) -> bool
         ensures { result ≡ left_over self.now }
     {
-        self.bytes.as_ref().is_none_or(|bytes| !bytes.is_empty())
+        self.bytes
+            .as_ref()
+            .is_none_or(|bytes| !bytes.as_slice().is_empty())
     }
 
     // The line's bytes; none where they are too many.

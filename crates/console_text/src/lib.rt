@@ -4,5 +4,6 @@
 
 mod decimal;
 pub mod gather;
+mod line_bytes;
 pub mod parse;
 pub mod print;

@@ -21,11 +21,11 @@ use Rattle.decisions.specs.VerdictLaws.{gone}
 use Rattle.decisions.specs.TestLaws.{RefusalOf, NoneApplies, numbers, none_applies}
 
 -- what the constructor answers to the settings asked for
-abbrev answered : Settings → Result Settings Refusal
+abbrev pub answered : Settings → Result Settings Refusal
 answered s = settings_answer s.block s.useful s.blocks s.tags
 
 -- what is tested once the settings are within their limits
-abbrev start_own : Settings → List ℕ → List Test
+abbrev pub start_own : Settings → List ℕ → List Test
 start_own s ws =
     record { number = SHORT_HEAD; applies = ltb (length ws) head_len } ∷ record { number = SHORT_STORE; applies = ltb (length ws) (layout_len s) } ∷ []
 

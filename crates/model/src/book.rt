@@ -16,6 +16,9 @@ const MOST_RECORDS: usize = 2048;
 
 const MOST_TAGS: usize = 64;
 
+// More blocks than a change opens: the records that it moves fit one, since a block that closes has fewer than q and 2q is at most b.
+const MOST_OPENED: u32 = 2;
+
 #[derive(Clone, Copy, Default)]
 pub struct Block {
     pub opened: u32,
@@ -212,12 +215,8 @@ impl Book {
         }
     }
 
-    // A set, a clear, or a new reading: "the clear, then the set". It is made in the book, and taken back where the book would then have more
-    // than B blocks. (The former book is copied onto the stack, which does not fail.)
-    pub(crate) fn take(&mut self, second: u32, action: Action) -> Answer {
-        let Ok(former) = self.clone() else {
-            return Err(Refusal::OutOfBlocks);
-        };
+    // A set, a clear, or a new reading: "the clear, then the set".
+    fn make(&mut self, second: u32, action: Action) {
         match action {
             Action::Set { tag, .. } => self.set(tag, second),
             Action::Clear { tag } => self.clear(tag, second),
@@ -227,6 +226,19 @@ impl Book {
             }
             Action::Advance => (),
         }
+    }
+
+    // A change is made in the book, and taken back where the book would then have more than B blocks. (The former book is copied, onto the stack,
+    // which does not fail; and only where blocks may run out, since that takes longer than the change itself.)
+    pub(crate) fn take(&mut self, second: u32, action: Action) -> Answer {
+        if self.opened().saturating_add(MOST_OPENED) <= self.settings.blocks {
+            self.make(second, action);
+            return Ok(());
+        }
+        let Ok(former) = self.clone() else {
+            return Err(Refusal::OutOfBlocks);
+        };
+        self.make(second, action);
         if self.opened() <= self.settings.blocks {
             return Ok(());
         }

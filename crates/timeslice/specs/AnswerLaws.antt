@@ -149,7 +149,7 @@ module _ (p : Past) where
       pub path_reach : Reach p k (none_yet s.read) rows list
       path_reach =
           let (ps, q, i) = start_at in
-          let g = search_few p q in
+          let g = (search_few p.second p.opened.head.cursor.opened (reader_of p) q).1 in
           record {
             buffers = b;
             fits = omega arith;
@@ -170,7 +170,7 @@ module _ (p : Past) where
             let (ps, q, i) = start_at in
             let (r, l, w, f) = told_found (rw e at (told.told (suc k) (omega arith))) in
             let few = short_found (path_short p.opened.head.settings.block p.second (reader_of p) (suc k) k) w in
-            let g = search_few p q in
+            let g = (search_few p.second p.opened.head.cursor.opened (reader_of p) q).1 in
             let given : m.rows ≡ length r = omega (arith, f.given) in
             let listed : m.blocks ≡ length l = omega (arith, f.blocks) in
             let all-rows : length (row_words r) ≤ length rows = omega (arith, words_length r, f.fits, b.long_rows) in

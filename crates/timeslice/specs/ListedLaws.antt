@@ -26,17 +26,17 @@ use Rattle.timeslice.specs.Listed.{rows_in, Listed, every, none, VisitListed, Li
 use Rattle.timeslice.specs.VisitLaws.{with_fuel, visit_short, short_found, visit_follows, follows_rows, follows_all}
 
 -- ---- one walk listed after another
-listed_then : {list list₁ list₂ : List ℕ} {n m : ℕ} {a : Result ℕ Unsound} {v w : Walk} → Listed list n v (Ok m) list₁ → Listed list₁ m w a list₂
+pub listed_then : {list list₁ list₂ : List ℕ} {n m : ℕ} {a : Result ℕ Unsound} {v w : Walk} → Listed list n v (Ok m) list₁ → Listed list₁ m w a list₂
     → Listed list n (and_then v w) a list₂
 listed_then {list = list} {n = n} (every {r = r} {l = l} e q) (every {r = r'} {l = l'} {m = k} e' q') =
     every {r = r ++ r'} {l = l ++ l'} {m = k} (simp length-append (omega arith)) (q' ∙ rw (q, e) (sym (sets_append list n l l')))
 listed_then (every e q) none = none
 
-listed_stop : {list list₁ : List ℕ} {n : ℕ} {e : Unsound} {v : Walk} (w : Walk) → Listed list n v (Err e) list₁ → Listed list n (and_then v w) (Err e) list₁
+pub listed_stop : {list list₁ : List ℕ} {n : ℕ} {e : Unsound} {v : Walk} (w : Walk) → Listed list n v (Err e) list₁ → Listed list n (and_then v w) (Err e) list₁
 listed_stop w none = none
 
 -- what was listed was found
-listed_found : {list list' : List ℕ} {n m : ℕ} {w : Walk} → Listed list n w (Ok m) list'
+pub listed_found : {list list' : List ℕ} {n m : ℕ} {w : Walk} → Listed list n w (Ok m) list'
     → (r : List Row) × (l : List ℕ) × (w ≡ found r l) × (m ≡ n + length l) × (list' ≡ sets list n l)
 listed_found (every {r = r} {l = l} e q) = (r, l, refl, e, q)
 

@@ -26,7 +26,7 @@ use Rattle.timeslice.specs.Searching.{page_told, pages_of, block_told, path_star
 -- ---- a page, from its last entry on
 module _ (t : ℕ) (page : List ℕ) where
   -- No entry from i on is up to t: those before it decide.
-  last_before : (k i : ℕ) → i ≤ k → ((j : ℕ) → i ≤ j → j < k → t < get_or page j 0) → last_up_to t k page ≡ last_up_to t i page
+  pub last_before : (k i : ℕ) → i ≤ k → ((j : ℕ) → i ≤ j → j < k → t < get_or page j 0) → last_up_to t k page ≡ last_up_to t i page
   unfolding last_up_to
   last_before zero i h f = let e : i ≡ 0 = omega arith in rw e
   last_before (suc k) i h f =
@@ -34,11 +34,11 @@ module _ (t : ℕ) (page : List ℕ) where
       (λ l. let e : i ≡ suc k = omega arith in rw e)
       (λ l. rw (lt-leb (get_or page k 0) t (f k l (omega arith))) (last_before k i l (λ j a b. f j a (omega arith))))
 
-  last_none : last_up_to t 0 page ≡ 0
+  pub last_none : last_up_to t 0 page ≡ 0
   unfolding last_up_to
   last_none = refl
 
-  last_here : (i : ℕ) → get_or page i 0 ≤ t → last_up_to t (suc i) page ≡ suc i
+  pub last_here : (i : ℕ) → get_or page i 0 ≤ t → last_up_to t (suc i) page ≡ suc i
   unfolding last_up_to
   last_here i h = rw (le-leb (get_or page i 0) t h)
 
@@ -71,7 +71,7 @@ module _ (opened : ℕ) where
   entries_more l = rw add-one (omega arith)
 
   -- The entries of a level fill it at most, for no more blocks than a store can have.
-  entries_fit : opened ≤ 4096 → (l : ℕ) → l < 3 → entries opened l ≤ level_len l
+  pub entries_fit : opened ≤ 4096 → (l : ℕ) → l < 3 → entries opened l ≤ level_len l
   unfolding entries
   entries_fit few zero h = few
   entries_fit few (suc zero) h = omega arith
@@ -89,7 +89,7 @@ module _ (opened : ℕ) where
   page_fits few (suc zero) e h p = omega (arith, entries_fit few 1 h)
   page_fits few (suc (suc l)) e h p = omega (arith, entries_fit few (suc (suc l)) h)
 
-  entries_some : 0 < opened → (l : ℕ) → 0 < entries opened l
+  pub entries_some : 0 < opened → (l : ℕ) → 0 < entries opened l
   unfolding entries
   entries_some h zero = h
   entries_some h (suc l) = omega (arith, entries_some h l)
@@ -274,7 +274,7 @@ passing_small : {l opened : ℕ} (p : Pass) {w : Finding ℕ (List Pass)} → Fe
 passing_small p none = none
 passing_small p (some {ps = ps} h g) = some {ps = p ∷ ps} (omega arith) g
 
-look_entry : (t opened : ℕ) (R : Reader) (l e : ℕ) → (look_up t opened R l e ≡ 0 → ⊥) → page_len * e + (look_up t opened R l e - 1) < entries opened l
+pub look_entry : (t opened : ℕ) (R : Reader) (l e : ℕ) → (look_up t opened R l e ≡ 0 → ⊥) → page_len * e + (look_up t opened R l e - 1) < entries opened l
 look_entry t opened R l e z = omega (arith, look_most t opened R l e)
 
 descend_small : (t opened : ℕ) (R : Reader) (l e : ℕ) → e < entries opened l → FewPasses l opened (descend t opened R l e)
@@ -287,9 +287,13 @@ small_start : {l opened : ℕ} {w : Finding ℕ (List Pass)} → FewPasses l ope
 small_start none e = cc
 small_start (some {n} {ps} h g) {s} e = let i : s ≡ path_start (block_told n) ps = cc in rw i h
 
-small_found : {l opened : ℕ} {w : Finding ℕ (List Pass)} → FewPasses l opened w → {n : ℕ} {ps : List Pass} → w ≡ found n ps → n ≤ opened
+small_found : {l opened : ℕ} {w : Finding ℕ (List Pass)} → FewPasses l opened w → {n : ℕ} {ps : List Pass} → w ≡ found n ps
+    → (length ps ≤ l) × (n ≤ opened)
 small_found none e = cc
-small_found (some {n = m} h g) {n} e = let i : m ≡ n = cc in rw i at g
+small_found (some {n = m} {ps = qs} h g) {n} {ps} e =
+    let i : m ≡ n = cc in
+    let j : qs ≡ ps = cc in
+    (rw j at h, rw i at g)
 
 -- where no page is passed yet, few are read
 pub none_read : {b : Option ℕ} {s : PathStart} → s ≡ path_start b [] → s.read ≤ 2
@@ -349,6 +353,5 @@ search_small t opened R =
     let k = look_entry t opened R l 0 (eqb-false _ 0 z) in
     small_more (top_below opened) (passing_small top (descend_small t opened R l (look_up t opened R l 0 - 1) (omega arith)))))
 
-pub search_few : (p : Past) {n : ℕ} {ps : List Pass} → search p.second p.opened.head.cursor.opened (reader_of p) ≡ found n ps
-    → n ≤ p.opened.head.cursor.opened
-search_few p e = small_found (search_small p.second p.opened.head.cursor.opened (reader_of p)) e
+pub search_few : (t opened : ℕ) (R : Reader) {n : ℕ} {ps : List Pass} → search t opened R ≡ found n ps → (length ps ≤ 3) × (n ≤ opened)
+search_few t opened R e = small_found (search_small t opened R) e

@@ -8,10 +8,11 @@ use console_text::parse;
 use console_text::parse::Line;
 use layout::ROW_LEN;
 use layout::refusal::Refusal;
+use model::out::print;
+use std::fmt;
 use std::fs::File;
 use std::io::Read;
 use std::ops::Range;
-use std::{fmt, io};
 
 // What the register gave where the file has something else.
 #[derive(Clone, Copy)]
@@ -168,19 +169,18 @@ fn compare(windows: File, store: &[u32]) -> Result<(), Difference> {
 }
 
 // Whether the windows of the case of this name agree, if it has any; if they don't, it says so.
-pub(crate) fn agree(rt: &impl System, name: &str) -> io::Result<Option<bool>> {
-    let Some(windows) = case::open(rt, name, "windows") else {
-        return Ok(None);
-    };
+pub(crate) fn agree(rt: &impl System, name: &[u8]) -> Option<bool> {
+    let windows = case::open(rt, name, "windows")?;
     let mut store = [0u32; STORE];
     if let Some(input) = case::open(rt, name, "in") {
         play(input, &mut store);
     }
     let Err(Difference { line, given }) = compare(windows, &store) else {
-        return Ok(Some(true));
+        return Some(true);
     };
-    print!(rt; "{name}: its windows differ at line {line}\nexpected: ")?;
-    case::show_line(rt, case::open(rt, name, "windows"), line)?;
-    println!(rt; "given:    {given}")?;
-    Ok(Some(false))
+    case::show_name(name);
+    print(format_args!(": its windows differ at line {line}\nexpected: "));
+    case::show_line(case::open(rt, name, "windows"), line);
+    print(format_args!("given:    {given}\n"));
+    Some(false)
 }

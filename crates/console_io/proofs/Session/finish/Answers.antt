@@ -3,4 +3,6 @@ use Rattle.console_io.specs.SessionLaws.{finished}
 use Rattle.console_io.proofs.Session.finish.Goals as goal
 
 pub returns : goal.returns
-returns c = finished _ _ _ c.last-step.ensures.takes c.print_said-printed.ensures c.at_end-missing.ensures c.print_said.ensures
+returns c =
+    let takes = rw (← c.console.view_is) at c.last-step.ensures.takes in
+    finished _ _ _ takes c.print_said-printed.ensures c.at_end-missing.ensures c.print_said.ensures

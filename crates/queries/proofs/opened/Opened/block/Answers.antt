@@ -3,4 +3,4 @@ use Rattle.queries.specs.BlockLaws.{block_is}
 use Rattle.queries.proofs.opened.Opened.block.Goals as goal
 
 pub returns-clause-read : goal.returns-clause-read
-returns-clause-read c = block_is c.args.self.now.readable c.block.ensures
+returns-clause-read c = let r = c.args.self.now.readable in block_is r.is r.held c.block.ensures
